@@ -1,0 +1,41 @@
+-- The ways through the longer arms of the fold, by the outcomes of the tests on them. `f` is what `floor` gave, and `b` the outcome of the last test.
+use mathlib.Core.Path.{_≡_, sym, subst}
+use mathlib.Core.Bool.{Bool, true, false, cond}
+use lib.Ieee.{Float, neg, lt, le}
+use Rattle.exact.specs.Rounded.{_⊕_, _⊖_, _⊗_, _⊘_, num}
+use Rattle.exact.specs.Floor.{floorF}
+use Rattle.border.specs.Fold.{mirrorPeriod, reflectPeriod, reflectUnder, foldMirror, foldReflect}
+
+-- `under` and `over` with the floor at hand
+abbrev pub underBy : Float → Float → Float → Float
+underBy period idx f = period ⊗ f ⊕ idx
+
+abbrev pub overBy : Float → Float → Float → Float
+overBy period idx f = idx ⊖ period ⊗ f
+
+module _ (idx len f : Float) where
+  pub mirror-under : f ≡ floorF (neg idx ⊘ mirrorPeriod len) → lt idx (num 0) ≡ true → (b : Bool) → le (underBy (mirrorPeriod len) idx f) (num 1 ⊖ len) ≡ b →
+    cond b (underBy (mirrorPeriod len) idx f ⊕ mirrorPeriod len) (neg (underBy (mirrorPeriod len) idx f)) ≡ foldMirror idx len
+  unfolding foldMirror
+  mirror-under e p b q = simp (sym e, p, q)
+
+  pub mirror-over : f ≡ floorF (idx ⊘ mirrorPeriod len) → lt idx (num 0) ≡ false → le len idx ≡ true → (b : Bool) → le len (overBy (mirrorPeriod len) idx f) ≡ b →
+    cond b (mirrorPeriod len ⊖ overBy (mirrorPeriod len) idx f) (overBy (mirrorPeriod len) idx f) ≡ foldMirror idx len
+  unfolding foldMirror
+  mirror-over e p r b q = simp (sym e, p, r, q)
+
+  pub reflect-over : f ≡ floorF (idx ⊘ reflectPeriod len) → lt idx (num 0) ≡ false → le len idx ≡ true → (b : Bool) → le len (overBy (reflectPeriod len) idx f) ≡ b →
+    cond b (reflectPeriod len ⊖ overBy (reflectPeriod len) idx f ⊖ num 1) (overBy (reflectPeriod len) idx f) ≡ foldReflect idx len
+  unfolding foldReflect
+  reflect-over e p r b q = simp (sym e, p, r, q)
+
+  pub reflect-far : f ≡ floorF (neg idx ⊘ reflectPeriod len) → lt idx (neg (reflectPeriod len)) ≡ true → underBy (reflectPeriod len) idx f ≡ reflectUnder idx len
+  reflect-far e p = simp (sym e, p)
+
+  pub reflect-near : lt idx (neg (reflectPeriod len)) ≡ false → idx ≡ reflectUnder idx len
+  reflect-near p = simp p
+
+  -- here `f` is the coordinate as it stands after the first step
+  pub reflect-under : f ≡ reflectUnder idx len → lt idx (num 0) ≡ true → (b : Bool) → lt f (neg len) ≡ b → cond b (f ⊕ reflectPeriod len) (neg f ⊖ num 1) ≡ foldReflect idx len
+  unfolding foldReflect
+  reflect-under e p b q = simp (p) (subst (λ (t : Float). cond b (f ⊕ reflectPeriod len) (neg f ⊖ num 1) ≡ cond (lt t (neg len)) (t ⊕ reflectPeriod len) (neg t ⊖ num 1)) e (simp q))

@@ -1,0 +1,2 @@
+-- The laws of the fold.
+pub mod Arms

@@ -1,0 +1,102 @@
+-- A float between 0 and a whole number n, as after a clamp: its floor is a whole number from 0 to n, and so is its cast to an integer. So it is an index.
+-- Assumes nothing.
+use mathlib.Core.Path.{_≡_, refl, sym, ap, _∙_, subst}
+use Prim.Native.Nat.{ℕ, zero, suc, _+_, _-_, _*_, _/_, _%_, _^_, _≤_, _<_, min, zero-le}
+use native.Mathlib.Nat.{mul-one, zero-mul, zero-lt-suc, le-refl, le-trans, le-of-eq, le-of-lt, div-mul-le-self, le-of-mul-le-mul-right, mul-pos}
+use native.Mathlib.Omega.{arith}
+use mathlib.Core.Bool.{Bool, true, false, not, _&&_, _||_, Bool·beq}
+use lib.IntN.{ℤ, pos, negsuc, natAbs}
+use lib.Dec.{T, ltb, eqb, ltb→lt, eqb→eq, lit≤, lt→ltb}
+use lib.Ieee.{Float, nan, inf, fin, binary64, up, down, below, level, lt, le, toUnsigned}
+use lib.Ieee.Exact.{HasValue}
+use lib.Ieee.Fits.{down-pos, and-l, eq→eqb}
+use Rattle.exact.specs.Whole.{W, Is}
+use Rattle.exact.specs.Floor.{floorF}
+use Rattle.exact.proofs.Value.{le-val, lt-val}
+use Rattle.exact.proofs.Whole.{W-val}
+use Rattle.exact.proofs.Is.{W-is, signed-zero}
+use Rattle.exact.proofs.Floors.{floor-whole, floor-broken}
+use Rattle.exact.proofs.Quotients.{exactly}
+use Rattle.exact.proofs.Modulo.{floor-is}
+
+-- x is finite, at most n in size, and not below 0: it is a zero where its sign is negative
+abbrev pub Between : Float → ℕ → Type 0
+Between nan n = ⊥
+Between (inf s) n = ⊥
+Between (fin true m e) n = m * up e ≡ 0
+Between (fin false m e) n = m * up e ≤ n * down e
+
+le-of-test : (a b : ℕ) → T (ltb a b || (eqb a b && true)) → a ≤ b
+le-of-test a b t = go (ltb a b) (ltb→lt a b) t
+  where
+    go : (v : Bool) → (T v → a < b) → T (v || (eqb a b && true)) → a ≤ b
+    go true h t = le-of-lt (h tt)
+    go false h t = le-of-eq (eqb→eq a b (and-l (eqb a b) true t))
+
+inf-low : (t : Bool) (y : Float) (s : Bool) (n : ℕ) → HasValue y s n 1 → T (le (inf t) y) → t ≡ true
+unfolding le
+inf-low true y s n v h = refl
+inf-low false nan s n v h = absurd v
+inf-low false (inf u) s n v h = absurd v
+inf-low false (fin u m e) s n v h = absurd h
+
+inf-high : (y : Float) (s : Bool) (n : ℕ) → HasValue y s n 1 → T (le y (inf true)) → ⊥
+unfolding le
+inf-high nan s n v h = v
+inf-high (inf u) s n v h = v
+inf-high (fin u m e) s n v h = h
+
+le-nan : (y : Float) (s : Bool) (n : ℕ) → HasValue y s n 1 → T (le y nan) → ⊥
+unfolding le
+le-nan nan s n v h = v
+le-nan (inf u) s n v h = v
+le-nan (fin u m e) s n v h = h
+
+-- by any two floats that are the numbers 0 and n
+pub between : (x : Float) (n : ℕ) → n ≤ 2 ^ 53 → T (le (W (pos 0)) x) → T (le x (W (pos n))) → Between x n
+between nan n N h g = le-nan (W (pos 0)) false 0 (W-val (pos 0) zero-le) h
+between (inf true) n N h g = inf-high (W (pos 0)) false 0 (W-val (pos 0) zero-le) h
+between (inf false) n N h g = mathlib.Core.Bool.false≢true (inf-low false (W (pos n)) false n (W-val (pos n) N) g)
+between (fin true m e) n N h g =
+    let t : T (level false (0 * down e) true (m * up e * 1)) = subst T (le-val (W (pos 0)) (fin true m e) false true 0 1 (m * up e) (down e) (zero-lt-suc 0) (down-pos e) (W-val (pos 0) zero-le) (refl, refl)) h in
+    sym (mul-one (m * up e)) ∙ sym (eqb→eq (0 * down e) (m * up e * 1) (and-l (eqb (0 * down e) (m * up e * 1)) (eqb (0 * down e) 0) t)) ∙ zero-mul (down e)
+between (fin false m e) n N h g =
+    let t : T (below false (m * up e * 1) false (n * down e) || level false (m * up e * 1) false (n * down e)) = subst T (le-val (fin false m e) (W (pos n)) false false (m * up e) (down e) n 1 (down-pos e) (zero-lt-suc 0) (refl, refl) (W-val (pos n) N)) g in
+    le-trans (le-of-eq (sym (mul-one (m * up e)))) (le-of-test (m * up e * 1) (n * down e) t)
+
+cut-le : (a d n : ℕ) → 0 < d → a ≤ n * d → a / d ≤ n
+cut-le a d n D h = le-of-mul-le-mul-right (le-trans (div-mul-le-self a d) h) D
+
+-- ---- its floor
+pub floor-between : (x : Float) (n : ℕ) → n ≤ 2 ^ 53 → Between x n → (k : ℕ) × (k ≤ n) × Is (floorF x) (pos k)
+floor-between nan n N h = absurd h
+floor-between (inf s) n N h = absurd h
+floor-between (fin true m e) n N h =
+    let z : Is (fin true m e) (pos 0) = record { sign = true; size = 0; value = (refl, mul-one (m * up e) ∙ h ∙ sym (zero-mul (down e))); number = refl } in
+    (0, zero-le, subst (λ (y : Float). Is y (pos 0)) (sym (floor-is z)) z)
+floor-between (fin false m e) n N h = (m * up e / down e, cut-le (m * up e) (down e) n (down-pos e) h, go (eqb (m * up e % down e) 0) (eqb→eq (m * up e % down e) 0) (λ z. eq→eqb z))
+  where
+    go : (t : Bool) → (T t → m * up e % down e ≡ 0) → (m * up e % down e ≡ 0 → T t) → Is (floorF (fin false m e)) (pos (m * up e / down e))
+    go true z b =
+        subst (λ (y : Float). Is y (pos (m * up e / down e))) (sym (floor-whole false m e (z tt)))
+        (record { sign = false; size = m * up e / down e; value = (refl, mul-one (m * up e) ∙ sym (exactly (m * up e) (down e) (z tt))); number = refl })
+    go false z b = subst (λ (y : Float). Is y (pos (m * up e / down e))) (sym (floor-broken false m e b)) (W-is (pos (m * up e / down e)) (le-trans (cut-le (m * up e) (down e) n (down-pos e) h) N))
+
+-- ---- its cast by `truncating_f64_to_u64`
+least : (c n : ℕ) → c ≤ n → min c (2 ^ 64 - 1) ≤ n
+least c n h = omega arith
+
+pub unsigned-between : (x : Float) (n : ℕ) → Between x n → toUnsigned 64 x ≤ n
+unfolding toUnsigned
+unsigned-between nan n h = absurd h
+unsigned-between (inf s) n h = absurd h
+unsigned-between (fin true m e) n h = zero-le
+unsigned-between (fin false m e) n h = least (m * up e / down e) n (cut-le (m * up e) (down e) n (down-pos e) h)
+
+-- what that function asks
+pub unsigned-between-asks : (x : Float) (n : ℕ) → n ≤ 2 ^ 53 → Between x n → T (lt (fin true 1 (pos 0)) x) × T (lt x (fin false 1 (pos 64)))
+unfolding lt
+unsigned-between-asks nan n N h = absurd h
+unsigned-between-asks (inf s) n N h = absurd h
+unsigned-between-asks (fin true m e) n N h = (omega (arith, lt→ltb, down-pos e), omega (arith, lt→ltb, down-pos e))
+unsigned-between-asks (fin false m e) n N h = (omega (arith, lt→ltb, down-pos e), omega (arith, lt→ltb, down-pos e, native.Mathlib.Nat.mul-le-mul-right (down e) N))

@@ -1,0 +1,6 @@
+-- The words of this crate's contracts and laws.
+pub mod Rounded
+pub mod Whole
+pub mod Floor
+pub mod Within
+pub mod Same
