@@ -1,10 +1,12 @@
--- The ways through the longer arms of the fold, by the outcomes of the tests on them. `f` is what `floor` gave, and `b` the outcome of the last test.
+-- The ways through the arms of the fold, by the outcomes of the tests on them. `f` is what `floor` gave, and `b` the outcome of the last test.
 use mathlib.Core.Path.{_≡_, sym, subst}
 use mathlib.Core.Bool.{Bool, true, false, cond}
 use lib.Ieee.{Float, neg, lt, le}
 use Rattle.exact.specs.Rounded.{_⊕_, _⊖_, _⊗_, _⊘_, num}
 use Rattle.exact.specs.Floor.{floorF}
-use Rattle.border.specs.Fold.{mirrorPeriod, reflectPeriod, reflectUnder, foldMirror, foldReflect}
+use Rattle.border.specs.declared.BorderMode.{BorderMode}
+use Rattle.border.specs.declared.BorderMode.the-variants.{Constant, Mirror, Nearest, Reflect, Wrap}
+use Rattle.border.specs.Fold.{over, mirrorPeriod, reflectPeriod, reflectUnder, fold, foldConstant, foldMirror, foldNearest, foldReflect, foldWrap}
 
 -- `under` and `over` with the floor at hand
 abbrev pub underBy : Float → Float → Float → Float
@@ -12,6 +14,40 @@ underBy period idx f = period ⊗ f ⊕ idx
 
 abbrev pub overBy : Float → Float → Float → Float
 overBy period idx f = idx ⊖ period ⊗ f
+
+-- a coordinate from 0 up to, not including, the length stays as it is
+pub inside : (mode : BorderMode) (idx len : Float) → lt idx (num 0) ≡ false → le len idx ≡ false → idx ≡ fold mode idx len
+unfolding fold foldConstant foldMirror foldNearest foldReflect foldWrap
+inside (Constant fill) idx len p q = simp (p, q)
+inside Mirror idx len p q = simp (p, q)
+inside Nearest idx len p q = simp (p, q)
+inside Reflect idx len p q = simp (p, q)
+inside Wrap idx len p q = simp (p, q)
+
+module _ (idx len : Float) where
+  pub constant-below : lt idx (num 0) ≡ true → neg (num 1) ≡ foldConstant idx len
+  unfolding foldConstant
+  constant-below p = simp p
+
+  pub constant-beyond : lt idx (num 0) ≡ false → le len idx ≡ true → neg (num 1) ≡ foldConstant idx len
+  unfolding foldConstant
+  constant-beyond p q = simp (p, q)
+
+  pub nearest-below : lt idx (num 0) ≡ true → num 0 ≡ foldNearest idx len
+  unfolding foldNearest
+  nearest-below p = simp p
+
+  pub nearest-beyond : lt idx (num 0) ≡ false → le len idx ≡ true → len ⊖ num 1 ≡ foldNearest idx len
+  unfolding foldNearest
+  nearest-beyond p q = simp (p, q)
+
+  pub wrap-below : lt idx (num 0) ≡ true → idx ⊕ (len ⊖ num 1) ⊗ (floorF (neg idx ⊘ (len ⊖ num 1)) ⊕ num 1) ≡ foldWrap idx len
+  unfolding foldWrap
+  wrap-below p = simp p
+
+  pub wrap-beyond : lt idx (num 0) ≡ false → le len idx ≡ true → over (len ⊖ num 1) idx ≡ foldWrap idx len
+  unfolding foldWrap
+  wrap-beyond p q = simp (p, q)
 
 module _ (idx len f : Float) where
   pub mirror-under : f ≡ floorF (neg idx ⊘ mirrorPeriod len) → lt idx (num 0) ≡ true → (b : Bool) → le (underBy (mirrorPeriod len) idx f) (num 1 ⊖ len) ≡ b →

@@ -1,2 +1,5 @@
--- The border modes: the fold, and the manual's rule that it is held to.
+-- The border modes: the fold, the manual's rule, and what holds the one to the other.
 pub mod Fold
+pub mod Manual
+pub mod Landing
+pub mod Worked

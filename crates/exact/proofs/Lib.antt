@@ -3,6 +3,7 @@ pub mod Literals
 pub mod Value
 pub mod Whole
 pub mod Is
+pub mod Naturals
 pub mod Floors
 pub mod Bounds
 pub mod Quotients
