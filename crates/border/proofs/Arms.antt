@@ -51,17 +51,17 @@ module _ (idx len : Float) where
 
 module _ (idx len f : Float) where
   pub mirror-under : f ≡ floorF (neg idx ⊘ mirrorPeriod len) → lt idx (num 0) ≡ true → (b : Bool) → le (underBy (mirrorPeriod len) idx f) (num 1 ⊖ len) ≡ b →
-    cond b (underBy (mirrorPeriod len) idx f ⊕ mirrorPeriod len) (neg (underBy (mirrorPeriod len) idx f)) ≡ foldMirror idx len
+      cond b (underBy (mirrorPeriod len) idx f ⊕ mirrorPeriod len) (neg (underBy (mirrorPeriod len) idx f)) ≡ foldMirror idx len
   unfolding foldMirror
   mirror-under e p b q = simp (sym e, p, q)
 
   pub mirror-over : f ≡ floorF (idx ⊘ mirrorPeriod len) → lt idx (num 0) ≡ false → le len idx ≡ true → (b : Bool) → le len (overBy (mirrorPeriod len) idx f) ≡ b →
-    cond b (mirrorPeriod len ⊖ overBy (mirrorPeriod len) idx f) (overBy (mirrorPeriod len) idx f) ≡ foldMirror idx len
+      cond b (mirrorPeriod len ⊖ overBy (mirrorPeriod len) idx f) (overBy (mirrorPeriod len) idx f) ≡ foldMirror idx len
   unfolding foldMirror
   mirror-over e p r b q = simp (sym e, p, r, q)
 
   pub reflect-over : f ≡ floorF (idx ⊘ reflectPeriod len) → lt idx (num 0) ≡ false → le len idx ≡ true → (b : Bool) → le len (overBy (reflectPeriod len) idx f) ≡ b →
-    cond b (reflectPeriod len ⊖ overBy (reflectPeriod len) idx f ⊖ num 1) (overBy (reflectPeriod len) idx f) ≡ foldReflect idx len
+      cond b (reflectPeriod len ⊖ overBy (reflectPeriod len) idx f ⊖ num 1) (overBy (reflectPeriod len) idx f) ≡ foldReflect idx len
   unfolding foldReflect
   reflect-over e p r b q = simp (sym e, p, r, q)
 

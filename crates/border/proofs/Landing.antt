@@ -2,7 +2,7 @@
 use mathlib.Core.Path.{_≡_, refl, sym, ap, _∙_, subst}
 use mathlib.Core.Logic.{_⊎_, inl, inr, dite}
 use Prim.Native.Nat.{ℕ, zero, suc, _+_, _-_, _*_, _/_, _%_, _^_, _≤_, _<_, zero-le}
-use native.Mathlib.Nat.{le-trans, le-of-lt, zero-lt-suc, lt-irrefl, not-le-of-lt, not-suc-le-zero, mul-pos, mod-lt, div-le-self, zero-add, mul-zero, mul-one, mul-le-mul-left}
+use native.Mathlib.Nat.{le-trans, le-of-lt, zero-lt-suc, lt-irrefl, not-le-of-lt, not-suc-le-zero, mul-pos, mod-lt, div-le-self, sub-zero, zero-add, mul-zero, mul-one, mul-le-mul-left}
 use native.Mathlib.Numerals.{add-one}
 use native.Mathlib.Decide.{decLt}
 use native.Mathlib.Omega.{arith}
@@ -16,7 +16,6 @@ use Rattle.exact.specs.Rounded.{_⊕_, _⊖_, _⊗_, _⊘_, num}
 use Rattle.exact.specs.Whole.{Is}
 use Rattle.exact.specs.Floor.{floorF}
 use Rattle.exact.proofs.Is.{neg-is, lt-is, le-is}
-use Rattle.exact.proofs.Whole.{minus-zero}
 use Rattle.exact.proofs.Naturals.{natAbs-neg, num-is, plus, times, minus, minus-more, neg-plus, negated, not-below, lt-negatives, le-negatives}
 use Rattle.border.specs.declared.BorderMode.{BorderMode}
 use Rattle.border.specs.declared.BorderMode.the-variants.{Constant, Mirror, Nearest, Reflect, Wrap}
@@ -55,7 +54,7 @@ module _ (idx len : Float) (L : ℕ) (least : 2 ≤ L) (most : L ≤ 4120) (is :
       elim (sides r L) [
         | inl k ↦ on-voxel Mirror L (pos a) r k (inl (up-own p a r (a / p) (parts a p))) rest (by false (le-is is rest ∙ lt-leb L r k))
         | inr k ↦ on-voxel Mirror L (pos a) (p - r) (omega arith) (inr (up-image p a (p - r) (suc (a / p)) (next-multiple a r p (a / p) (parts a p) (le-of-lt small))))
-          (minus mirror-period rest (le-of-lt small) (omega arith)) (by true (le-is is rest ∙ le-leb L r k))
+            (minus mirror-period rest (le-of-lt small) (omega arith)) (by true (le-is is rest ∙ le-leb L r k))
       ]
 
   mirror-below : (a : ℕ) → Is idx (negℤ (pos a)) → lt idx (num 0) ≡ true → a ≤ 2 ^ 32 → OnVoxel Mirror L (negℤ (pos a)) (foldMirror idx len)
@@ -69,7 +68,7 @@ module _ (idx len : Float) (L : ℕ) (least : 2 ≤ L) (most : L ≤ 4120) (is :
       elim (sides r (L - 1)) [
         | inl k ↦ on-voxel Mirror L (negℤ (pos a)) r (omega arith) (inr (down-image p a r (a / p) (parts a p))) (negated rest) (by false (test ∙ lt-leb (L - 1) r k))
         | inr k ↦ on-voxel Mirror L (negℤ (pos a)) (p - r) (omega arith) (inl (down-own p a (p - r) (suc (a / p)) (next-multiple a r p (a / p) (parts a p) (le-of-lt small))))
-          (neg-plus rest mirror-period (le-of-lt small) (omega arith)) (by true (test ∙ le-leb (L - 1) r k))
+            (neg-plus rest mirror-period (le-of-lt small) (omega arith)) (by true (test ∙ le-leb (L - 1) r k))
       ]
 
   -- ---- Reflect
@@ -86,9 +85,9 @@ module _ (idx len : Float) (L : ℕ) (least : 2 ≤ L) (most : L ≤ 4120) (is :
       elim (sides r L) [
         | inl k ↦ on-voxel Reflect L (pos a) r k (inl (up-own p a r (a / p) (parts a p))) rest (by false (le-is is rest ∙ lt-leb L r k))
         | inr k ↦
-          let e : suc (p - r - 1) ≡ p - r = omega arith in
-          on-voxel Reflect L (pos a) (p - r - 1) (omega arith) (inr (up-image p a (suc (p - r - 1)) (suc (a / p)) (ap (λ (j : ℕ). a + j) e ∙ next-multiple a r p (a / p) (parts a p) (le-of-lt small))))
-          (minus (minus reflect-period rest (le-of-lt small) (omega arith)) (num-is 1 (lit≤ tt)) (omega arith) (omega arith)) (by true (le-is is rest ∙ le-leb L r k))
+            let e : suc (p - r - 1) ≡ p - r = omega arith in
+            on-voxel Reflect L (pos a) (p - r - 1) (omega arith) (inr (up-image p a (suc (p - r - 1)) (suc (a / p)) (ap (λ (j : ℕ). a + j) e ∙ next-multiple a r p (a / p) (parts a p) (le-of-lt small))))
+            (minus (minus reflect-period rest (le-of-lt small) (omega arith)) (num-is 1 (lit≤ tt)) (omega arith) (omega arith)) (by true (le-is is rest ∙ le-leb L r k))
       ]
 
   -- after the first step the coordinate is -u: where it was -a, from -2L up, u is a, and below that the remainder of a
@@ -149,9 +148,9 @@ module _ (idx len : Float) (L : ℕ) (least : 2 ≤ L) (most : L ≤ 4120) (is :
         marked = λ f. absurd (some i (fz (f .k) (f .far) (sym (natAbs-neg a) ∙ ap natAbs (f .even) ∙ natAbs-neg (2 * L * f .k))));
         follows = λ _. elim (sides L (suc i)) [
           | inl l ↦ on-voxel Reflect L (negℤ (pos a)) (2 * L - suc i) (omega arith) (inl (down-own (2 * L) a (2 * L - suc i) (suc q) (next-multiple a (suc i) (2 * L) q e top)))
-            (neg-plus k reflect-period top (omega arith)) (by (suc i) k true (lt-ltb L (suc i) l))
+              (neg-plus k reflect-period top (omega arith)) (by (suc i) k true (lt-ltb L (suc i) l))
           | inr l ↦ on-voxel Reflect L (negℤ (pos a)) i l (inr (down-image (2 * L) a (suc i) q e))
-            (subst (λ (j : ℕ). Is (neg (reflectUnder idx len) ⊖ num 1) (pos j)) (less i) (minus (negated {a = suc i} k) (num-is 1 (lit≤ tt)) (omega arith) (omega arith))) (by (suc i) k false (le-ltb L (suc i) l))
+              (subst (λ (j : ℕ). Is (neg (reflectUnder idx len) ⊖ num 1) (pos j)) (less i) (minus (negated {a = suc i} k) (num-is 1 (lit≤ tt)) (omega arith) (omega arith))) (by (suc i) k false (le-ltb L (suc i) l))
         ];
         chosen = tt;
       }
@@ -266,7 +265,7 @@ below mode {idx} {len} c L h k l m d = go mode
           marked = λ z. absurd z;
           follows = λ _. on-voxel Wrap L (negsuc c) (p - a % p) (omega arith) (down-own p a (p - a % p) (suc (a / p)) (next-multiple a (a % p) p (a / p) (parts a p) (le-of-lt small))) r refl;
           chosen = λ z. record {
-            below = λ _. subst (λ (j : ℕ). Is (foldWrap idx len) (pos j)) (ap (λ (j : ℕ). p - j) (whole-remainder p a (natAbs (z .times)) (multiple z)) ∙ minus-zero p) r;
+            below = λ _. subst (λ (j : ℕ). Is (foldWrap idx len) (pos j)) (ap (λ (j : ℕ). p - j) (whole-remainder p a (natAbs (z .times)) (multiple z)) ∙ sub-zero p) r;
             beyond = λ b. absurd (b .le);
             inside = λ b _. absurd (b .le);
           };

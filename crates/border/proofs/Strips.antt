@@ -19,28 +19,100 @@ own k e = record { times = k; equal = e }
 
 -- (d c b | a b c d | c b a)
 pub mirror-strip : Strip Mirror (negsuc 2) (3 ∷ 2 ∷ 1 ∷ 0 ∷ 1 ∷ 2 ∷ 3 ∷ 2 ∷ 1 ∷ 0 ∷ [])
-mirror-strip =
-    (inl (own (negsuc 0) refl), (inr (own (pos 0) refl), (inr (own (pos 0) refl),
-    (inl (own (pos 0) refl), (inl (own (pos 0) refl), (inl (own (pos 0) refl), (inl (own (pos 0) refl),
-    (inr (own (pos 1) refl), (inr (own (pos 1) refl), (inr (own (pos 1) refl), tt))))))))))
+mirror-strip = (
+  inl (own (negsuc 0) refl),
+  (
+    inr (own (pos 0) refl),
+    (
+      inr (own (pos 0) refl),
+      (
+        inl (own (pos 0) refl),
+        (
+          inl (own (pos 0) refl),
+          (
+            inl (own (pos 0) refl),
+            (
+              inl (own (pos 0) refl),
+              (inr (own (pos 1) refl), (inr (own (pos 1) refl), (inr (own (pos 1) refl), tt))),
+            ),
+          ),
+        ),
+      ),
+    ),
+  ),
+)
 
 -- (d c b a | a b c d | d c b a)
 pub reflect-strip : Strip Reflect (negsuc 3) (3 ∷ 2 ∷ 1 ∷ 0 ∷ 0 ∷ 1 ∷ 2 ∷ 3 ∷ 3 ∷ 2 ∷ 1 ∷ 0 ∷ [])
-reflect-strip =
-    (inr (own (pos 0) refl), (inr (own (pos 0) refl), (inr (own (pos 0) refl), (inr (own (pos 0) refl),
-    (inl (own (pos 0) refl), (inl (own (pos 0) refl), (inl (own (pos 0) refl), (inl (own (pos 0) refl),
-    (inr (own (pos 1) refl), (inr (own (pos 1) refl), (inr (own (pos 1) refl), (inr (own (pos 1) refl), tt))))))))))))
+reflect-strip = (
+  inr (own (pos 0) refl),
+  (
+    inr (own (pos 0) refl),
+    (
+      inr (own (pos 0) refl),
+      (
+        inr (own (pos 0) refl),
+        (
+          inl (own (pos 0) refl),
+          (
+            inl (own (pos 0) refl),
+            (
+              inl (own (pos 0) refl),
+              (
+                inl (own (pos 0) refl),
+                (inr (own (pos 1) refl), (inr (own (pos 1) refl), (inr (own (pos 1) refl), (inr (own (pos 1) refl), tt)))),
+              ),
+            ),
+          ),
+        ),
+      ),
+    ),
+  ),
+)
 
 -- (a a a a | a b c d | d d d d)
 pub nearest-strip : Strip Nearest (negsuc 3) (0 ∷ 0 ∷ 0 ∷ 0 ∷ 0 ∷ 1 ∷ 2 ∷ 3 ∷ 3 ∷ 3 ∷ 3 ∷ 3 ∷ [])
-nearest-strip =
-    (inr (inl (ltZ-yes tt, refl)), (inr (inl (ltZ-yes tt, refl)), (inr (inl (ltZ-yes tt, refl)), (inr (inl (ltZ-yes tt, refl)),
-    (inl refl, (inl refl, (inl refl, (inl refl,
-    (inr (inr (leZ-yes tt, refl)), (inr (inr (leZ-yes tt, refl)), (inr (inr (leZ-yes tt, refl)), (inr (inr (leZ-yes tt, refl)), tt))))))))))))
+nearest-strip = (
+  inr (inl (ltZ-yes tt, refl)),
+  (
+    inr (inl (ltZ-yes tt, refl)),
+    (
+      inr (inl (ltZ-yes tt, refl)),
+      (
+        inr (inl (ltZ-yes tt, refl)),
+        (
+          inl refl,
+          (
+            inl refl,
+            (
+              inl refl,
+              (
+                inl refl,
+                (inr (inr (leZ-yes tt, refl)), (inr (inr (leZ-yes tt, refl)), (inr (inr (leZ-yes tt, refl)), (inr (inr (leZ-yes tt, refl)), tt)))),
+              ),
+            ),
+          ),
+        ),
+      ),
+    ),
+  ),
+)
 
 -- (a b c d | b c a b), and voxel 2 at -1
 pub wrap-strip : Strip Wrap (negsuc 0) (2 ∷ 0 ∷ 1 ∷ 2 ∷ 3 ∷ 1 ∷ 2 ∷ 0 ∷ 1 ∷ [])
-wrap-strip =
-    (own (negsuc 0) refl,
-    (own (pos 0) refl, (own (pos 0) refl, (own (pos 0) refl, (own (pos 0) refl,
-    (own (pos 1) refl, (own (pos 1) refl, (own (pos 2) refl, (own (pos 2) refl, tt)))))))))
+wrap-strip = (
+  own (negsuc 0) refl,
+  (
+    own (pos 0) refl,
+    (
+      own (pos 0) refl,
+      (
+        own (pos 0) refl,
+        (
+          own (pos 0) refl,
+          (own (pos 1) refl, (own (pos 1) refl, (own (pos 2) refl, (own (pos 2) refl, tt)))),
+        ),
+      ),
+    ),
+  ),
+)

@@ -1,4 +1,5 @@
 -- The laws of exact arithmetic on binary64.
+pub mod Tests
 pub mod Literals
 pub mod Value
 pub mod Whole
@@ -14,3 +15,4 @@ pub mod Modulo
 pub mod Casts
 pub mod Parts
 pub mod Ranges
+pub mod Rounds

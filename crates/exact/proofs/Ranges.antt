@@ -1,23 +1,26 @@
 -- A float between 0 and a whole number n, as after a clamp: its floor is a whole number from 0 to n, and so is its cast to an integer. So it is an index.
 -- Assumes nothing.
-use mathlib.Core.Path.{_≡_, refl, sym, ap, _∙_, subst}
-use Prim.Native.Nat.{ℕ, zero, suc, _+_, _-_, _*_, _/_, _%_, _^_, _≤_, _<_, min, zero-le}
-use native.Mathlib.Nat.{mul-one, zero-mul, zero-lt-suc, le-refl, le-trans, le-of-eq, le-of-lt, div-mul-le-self, le-of-mul-le-mul-right, mul-pos}
+use mathlib.Core.Path.{_≡_, refl, sym, _∙_, subst}
+use mathlib.Core.Logic.{dite}
+use Prim.Native.Nat.{ℕ, _-_, _*_, _/_, _%_, _^_, _≤_, min, zero-le}
+use native.Mathlib.Nat.{mul-one, zero-mul, zero-lt-suc, le-trans, le-of-eq}
+use native.Mathlib.Decide.{ℕ-discrete}
 use native.Mathlib.Omega.{arith}
-use mathlib.Core.Bool.{Bool, true, false, not, _&&_, _||_, Bool·beq}
-use lib.IntN.{ℤ, pos, negsuc, natAbs}
-use lib.Dec.{T, ltb, eqb, ltb→lt, eqb→eq, lit≤, lt→ltb}
-use lib.Ieee.{Float, nan, inf, fin, binary64, up, down, below, level, lt, le, toUnsigned}
+use mathlib.Core.Bool.{Bool, true, false, _||_}
+use lib.IntN.{ℤ, pos}
+use lib.Dec.{T, eqb, eqb→eq, lt→ltb}
+use lib.Ieee.{Float, nan, inf, fin, up, down, below, level, lt, le, toUnsigned}
 use lib.Ieee.Exact.{HasValue}
-use lib.Ieee.Fits.{down-pos, and-l, eq→eqb}
+use lib.Ieee.Fits.{down-pos, and-l}
 use Rattle.exact.specs.Whole.{W, Is}
 use Rattle.exact.specs.Floor.{floorF}
-use Rattle.exact.proofs.Value.{le-val, lt-val}
+use Rattle.exact.specs.Within.{Within}
+use Rattle.exact.proofs.Tests.{le-of-level}
+use Rattle.exact.proofs.Value.{le-val}
 use Rattle.exact.proofs.Whole.{W-val}
-use Rattle.exact.proofs.Is.{W-is, signed-zero}
-use Rattle.exact.proofs.Floors.{floor-whole, floor-broken}
-use Rattle.exact.proofs.Quotients.{exactly}
-use Rattle.exact.proofs.Modulo.{floor-is}
+use Rattle.exact.proofs.Is.{W-is}
+use Rattle.exact.proofs.Floors.{floor-whole, floor-broken, whole-kept, cut-at-most}
+use Rattle.exact.proofs.Quotients.{whole-val}
 
 -- x is finite, at most n in size, and not below 0: it is a zero where its sign is negative
 abbrev pub Between : Float → ℕ → Type 0
@@ -25,13 +28,6 @@ Between nan n = ⊥
 Between (inf s) n = ⊥
 Between (fin true m e) n = m * up e ≡ 0
 Between (fin false m e) n = m * up e ≤ n * down e
-
-le-of-test : (a b : ℕ) → T (ltb a b || (eqb a b && true)) → a ≤ b
-le-of-test a b t = go (ltb a b) (ltb→lt a b) t
-  where
-    go : (v : Bool) → (T v → a < b) → T (v || (eqb a b && true)) → a ≤ b
-    go true h t = le-of-lt (h tt)
-    go false h t = le-of-eq (eqb→eq a b (and-l (eqb a b) true t))
 
 inf-low : (t : Bool) (y : Float) (s : Bool) (n : ℕ) → HasValue y s n 1 → T (le (inf t) y) → t ≡ true
 unfolding le
@@ -52,35 +48,54 @@ le-nan nan s n v h = v
 le-nan (inf u) s n v h = v
 le-nan (fin u m e) s n v h = h
 
+-- a negative sign, and not below 0: a zero
+nought : (m : ℕ) (e : ℤ) → T (level false (0 * down e) true (m * up e * 1)) → m * up e ≡ 0
+nought m e t = sym (mul-one (m * up e)) ∙ sym (eqb→eq (0 * down e) (m * up e * 1) (and-l (eqb (0 * down e) (m * up e * 1)) (eqb (0 * down e) 0) t)) ∙ zero-mul (down e)
+
+pub between-of-within : (x : Float) {k : ℕ} → Within k x → T (le (fin false 0 (pos 0)) x) → Between x (2 ^ k)
+unfolding le
+between-of-within nan w h = w .bound
+between-of-within (inf s) w h = w .bound
+between-of-within (fin true m e) w h = nought m e h
+between-of-within (fin false m e) w h = w .bound
+
 -- by any two floats that are the numbers 0 and n
 pub between : (x : Float) (n : ℕ) → n ≤ 2 ^ 53 → T (le (W (pos 0)) x) → T (le x (W (pos n))) → Between x n
 between nan n N h g = le-nan (W (pos 0)) false 0 (W-val (pos 0) zero-le) h
 between (inf true) n N h g = inf-high (W (pos 0)) false 0 (W-val (pos 0) zero-le) h
 between (inf false) n N h g = mathlib.Core.Bool.false≢true (inf-low false (W (pos n)) false n (W-val (pos n) N) g)
 between (fin true m e) n N h g =
-    let t : T (level false (0 * down e) true (m * up e * 1)) = subst T (le-val (W (pos 0)) (fin true m e) false true 0 1 (m * up e) (down e) (zero-lt-suc 0) (down-pos e) (W-val (pos 0) zero-le) (refl, refl)) h in
-    sym (mul-one (m * up e)) ∙ sym (eqb→eq (0 * down e) (m * up e * 1) (and-l (eqb (0 * down e) (m * up e * 1)) (eqb (0 * down e) 0) t)) ∙ zero-mul (down e)
+    nought m e (subst T (le-val (W (pos 0)) (fin true m e) false true 0 1 (m * up e) (down e) (zero-lt-suc 0) (down-pos e) (W-val (pos 0) zero-le) (refl, refl)) h)
 between (fin false m e) n N h g =
     let t : T (below false (m * up e * 1) false (n * down e) || level false (m * up e * 1) false (n * down e)) = subst T (le-val (fin false m e) (W (pos n)) false false (m * up e) (down e) n 1 (down-pos e) (zero-lt-suc 0) (refl, refl) (W-val (pos n) N)) g in
-    le-trans (le-of-eq (sym (mul-one (m * up e)))) (le-of-test (m * up e * 1) (n * down e) t)
+    le-trans (le-of-eq (sym (mul-one (m * up e)))) (le-of-level (m * up e * 1) (n * down e) t)
 
-cut-le : (a d n : ℕ) → 0 < d → a ≤ n * d → a / d ≤ n
-cut-le a d n D h = le-of-mul-le-mul-right (le-trans (div-mul-le-self a d) h) D
+-- ---- what leaves each whole number as it is, and makes a natural number up to n of each other one
+pub natural-between : (F : Float → Float) → ((s : Bool) (m : ℕ) (e : ℤ) → m * up e % down e ≡ 0 → F (fin s m e) ≡ fin s m e) → (x : Float) (n : ℕ)
+    → ((m : ℕ) (e : ℤ) → (m * up e % down e ≡ 0 → ⊥) → m * up e ≤ n * down e → (k : ℕ) × (k ≤ n) × Is (F (fin false m e)) (pos k))
+    → Between x n → (k : ℕ) × (k ≤ n) × Is (F x) (pos k)
+natural-between F keep nan n broken h = absurd h
+natural-between F keep (inf s) n broken h = absurd h
+natural-between F keep (fin true m e) n broken h =
+    let z : Is (fin true m e) (pos 0) = record { sign = true; size = 0; value = (refl, mul-one (m * up e) ∙ h ∙ sym (zero-mul (down e))); number = refl } in
+    (0, zero-le, subst (λ (y : Float). Is y (pos 0)) (sym (whole-kept F keep z)) z)
+natural-between F keep (fin false m e) n broken h =
+    dite (ℕ-discrete (m * up e % down e) 0)
+    (λ z. (
+      m * up e / down e,
+      cut-at-most (m * up e) (down e) n (down-pos e) h,
+      subst (λ (y : Float). Is y (pos (m * up e / down e))) (sym (keep false m e z)) (record { sign = false; size = m * up e / down e; value = whole-val false m e z; number = refl }),
+    ))
+    (λ b. broken m e b h)
 
 -- ---- its floor
 pub floor-between : (x : Float) (n : ℕ) → n ≤ 2 ^ 53 → Between x n → (k : ℕ) × (k ≤ n) × Is (floorF x) (pos k)
-floor-between nan n N h = absurd h
-floor-between (inf s) n N h = absurd h
-floor-between (fin true m e) n N h =
-    let z : Is (fin true m e) (pos 0) = record { sign = true; size = 0; value = (refl, mul-one (m * up e) ∙ h ∙ sym (zero-mul (down e))); number = refl } in
-    (0, zero-le, subst (λ (y : Float). Is y (pos 0)) (sym (floor-is z)) z)
-floor-between (fin false m e) n N h = (m * up e / down e, cut-le (m * up e) (down e) n (down-pos e) h, go (eqb (m * up e % down e) 0) (eqb→eq (m * up e % down e) 0) (λ z. eq→eqb z))
+floor-between x n N = natural-between floorF floor-whole x n broken
   where
-    go : (t : Bool) → (T t → m * up e % down e ≡ 0) → (m * up e % down e ≡ 0 → T t) → Is (floorF (fin false m e)) (pos (m * up e / down e))
-    go true z b =
-        subst (λ (y : Float). Is y (pos (m * up e / down e))) (sym (floor-whole false m e (z tt)))
-        (record { sign = false; size = m * up e / down e; value = (refl, mul-one (m * up e) ∙ sym (exactly (m * up e) (down e) (z tt))); number = refl })
-    go false z b = subst (λ (y : Float). Is y (pos (m * up e / down e))) (sym (floor-broken false m e b)) (W-is (pos (m * up e / down e)) (le-trans (cut-le (m * up e) (down e) n (down-pos e) h) N))
+    broken : (m : ℕ) (e : ℤ) → (m * up e % down e ≡ 0 → ⊥) → m * up e ≤ n * down e → (k : ℕ) × (k ≤ n) × Is (floorF (fin false m e)) (pos k)
+    broken m e b h =
+        let l : m * up e / down e ≤ n = cut-at-most (m * up e) (down e) n (down-pos e) h in
+        (m * up e / down e, l, subst (λ (y : Float). Is y (pos (m * up e / down e))) (sym (floor-broken false m e b)) (W-is (pos (m * up e / down e)) (le-trans l N)))
 
 -- ---- its cast by `truncating_f64_to_u64`
 least : (c n : ℕ) → c ≤ n → min c (2 ^ 64 - 1) ≤ n
@@ -91,7 +106,7 @@ unfolding toUnsigned
 unsigned-between nan n h = absurd h
 unsigned-between (inf s) n h = absurd h
 unsigned-between (fin true m e) n h = zero-le
-unsigned-between (fin false m e) n h = least (m * up e / down e) n (cut-le (m * up e) (down e) n (down-pos e) h)
+unsigned-between (fin false m e) n h = least (m * up e / down e) n (cut-at-most (m * up e) (down e) n (down-pos e) h)
 
 -- what that function asks
 pub unsigned-between-asks : (x : Float) (n : ℕ) → n ≤ 2 ^ 53 → Between x n → T (lt (fin true 1 (pos 0)) x) × T (lt x (fin false 1 (pos 64)))

@@ -2,5 +2,6 @@
 pub mod Rounded
 pub mod Whole
 pub mod Floor
+pub mod Round
 pub mod Within
 pub mod Same

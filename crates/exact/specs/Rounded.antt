@@ -6,7 +6,6 @@ use lib.Ieee.{Float, binary64, add, sub, mul, div, round, ofInt}
 
 infixl 6 _⊕_ _⊖_
 infixl 7 _⊗_ _⊘_
-
 abbrev pub _⊕_ : Float → Float → Float
 x ⊕ y = add binary64 x y
 

@@ -1,6 +1,7 @@
 // Whole numbers among the floats: floor, and rounding to the nearest whole number.
 ghost use mathlib.Core.Path.{_≡_};
 ghost use Rattle.exact.specs.Floor.{floorF};
+ghost use Rattle.exact.specs.Round.{roundTiesEvenF, NotBelowZero};
 
 // The largest whole number that is at most x, as Rust's `f64::floor`: 0.5 gives 0.0 and -0.5 gives
 // -1.0. A zero keeps its sign, and a NaN and the infinities are returned. Past 2^53 every float is
@@ -21,4 +22,36 @@ pub fn floor(x: f64) -> f64
         }
     }
     x
+}
+
+// The nearest whole number, of two equally near the even one, as Rust's `f64::round_ties_even`: 1.5
+// and 2.5 give 2.0. A zero has the sign of x, so that -0.5 gives -0.0, and a NaN and the infinities
+// are returned. The ported source has a helper of this name, which agrees within the range of i32.
+pub fn round_ties_even(x: f64) -> f64
+    ensures { λ r. ⌜ r ≡ roundTiesEvenF x ⌝ }
+{
+    if x < 0.0 {
+        return -nearest_whole(-x);
+    }
+    nearest_whole(x)
+}
+
+// The same at an x that is not below 0: of the whole numbers on either side the nearer one.
+fn nearest_whole(x: f64) -> f64
+    requires { ⌜ NotBelowZero x ⌝ }
+    ensures { λ r. ⌜ r ≡ roundTiesEvenF x ⌝ }
+{
+    let f = floor(x);
+    if f == x {
+        return x;
+    }
+    let middle = f + 0.5;
+    if x < middle {
+        return f;
+    }
+    if middle < x {
+        return f + 1.0;
+    }
+    // the even one of f and f + 1
+    floor((f + 1.0) / 2.0) * 2.0
 }
