@@ -1,0 +1,3 @@
+-- The laws of lists.
+pub mod Tabulated
+pub mod Stretches

@@ -1,0 +1,2 @@
+-- Lists of numbers, as buffers are.
+pub mod Tabulate
