@@ -26,7 +26,7 @@ use Rattle.border.proofs.Arms as arms
 use Rattle.border.proofs.Periods.{up-own, up-image, down-own, down-image, parts, next-multiple, whole-remainder, multiple}
 use Rattle.border.proofs.Rests.{over-is, quotient-is, under-is}
 
-sides : (a b : ℕ) → (a < b) ⊎ (b ≤ a)
+pub sides : (a b : ℕ) → (a < b) ⊎ (b ≤ a)
 sides a b = dite (decLt a b) (λ l. inl l) (λ n. inr (omega arith))
 
 on-voxel : (mode : BorderMode) (L : ℕ) (n : ℤ) {x r : Float} (i : ℕ) → i < L → Rule mode L n i → Is x (pos i) → x ≡ r → OnVoxel mode L n r
@@ -187,7 +187,7 @@ not-below-zero a h = not-suc-le-zero (ltb→lt a 0 (h .lt))
 not-beyond : (a L : ℕ) → a < L → pos L ≤ℤ pos a → ⊥
 not-beyond a L l h = not-le-of-lt l (leb→le L a (h .le))
 
-not-far : (a L : ℕ) → 2 ≤ L → FarEven L (pos a) → ⊥
+pub not-far : (a L : ℕ) → 2 ≤ L → FarEven L (pos a) → ⊥
 not-far a L l f = go (2 * L * f .k) (f .even) (mul-pos (omega arith) (le-trans (lit≤ tt) (f .far)))
   where
     go : (m : ℕ) → pos a ≡ negℤ (pos m) → 0 < m → ⊥

@@ -46,7 +46,7 @@ pub whole-remainder : (p a k : ℕ) → a ≡ p * k → a % p ≡ 0
 whole-remainder p a k e = ap (λ (x : ℕ). x % p) e ∙ mul-mod-right p k
 
 -- ---- what lies a whole number of periods away from 0 is a multiple
-size-multiple : (p : ℕ) (t : ℤ) → natAbs (pos p *ℤ t) ≡ p * natAbs t
+pub size-multiple : (p : ℕ) (t : ℤ) → natAbs (pos p *ℤ t) ≡ p * natAbs t
 size-multiple p (pos k) = refl
 size-multiple p (negsuc k) = go (p * suc k)
   where

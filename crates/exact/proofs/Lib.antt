@@ -16,3 +16,4 @@ pub mod Casts
 pub mod Parts
 pub mod Ranges
 pub mod Rounds
+pub mod Above

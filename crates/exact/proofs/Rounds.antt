@@ -16,6 +16,7 @@ use lib.Ieee.Exact.{HasValue}
 use lib.Ieee.Fits.{down-pos, eq→eqb, nearest-le}
 use lib.Ieee.Nearest.{closest}
 use borrow.Author.Tests.{ltb-true, ltb-false, ne-eqb}
+use Rattle.exact.specs.Rounded.{half}
 use Rattle.exact.specs.Whole.{W, Is}
 use Rattle.exact.specs.Floor.{floorF}
 use Rattle.exact.specs.Round.{roundTiesEvenF, NotBelowZero}
@@ -92,10 +93,6 @@ broken-short s (suc m) (negsuc k) f h =
     (le-trans (mul-le-mul-left (suc m * 1 / 2 ^ suc k) (pow-mono {i = 1} (zero-lt-suc k)))
     (le-trans (div-mul-le-self (suc m * 1) (2 ^ suc k)) (le-of-eq (mul-one (suc m)))))
     (fits-says binary64 s m (negsuc k) f .short)
-
--- ---- the middle between q and q + 1
-abbrev pub half : Float
-half = fin false 1 (negsuc 0)
 
 small : (q : ℕ) → q * 2 < 2 ^ 53 → q ≤ 2 ^ 53
 small q h = omega arith

@@ -8,7 +8,8 @@ use borrow.Author.Needs.{needs}
 use Rattle.exact.specs.Whole.{W}
 use Rattle.exact.specs.Round.{roundTiesEvenF}
 use Rattle.exact.proofs.Value.{of-true}
-use Rattle.exact.proofs.Rounds.{half, choose, nearest-steps}
+use Rattle.exact.proofs.Rounds.{choose, nearest-steps}
+use Rattle.exact.specs.Rounded.{half}
 use Rattle.exact.proofs.nearest_whole.Statement.{statement}
 use Rattle.exact.proofs.nearest_whole.Tie as tie
 

@@ -1,0 +1,7 @@
+-- The laws of one axis.
+pub mod Weights
+pub mod Coordinates
+pub mod Lengths
+pub mod Reaches
+pub mod Inside
+pub mod Points

@@ -1,0 +1,6 @@
+-- One axis: coordinates, lengths, weights, neighbours, and the record of an output index.
+pub mod Coordinate
+pub mod Length
+pub mod Weights
+pub mod Neighbours
+pub mod Point
