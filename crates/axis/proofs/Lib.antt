@@ -5,3 +5,4 @@ pub mod Lengths
 pub mod Reaches
 pub mod Inside
 pub mod Points
+pub mod Worked

@@ -4,3 +4,4 @@ pub mod Length
 pub mod Weights
 pub mod Neighbours
 pub mod Point
+pub mod Worked

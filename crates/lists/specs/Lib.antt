@@ -1,2 +1,3 @@
 -- Lists of numbers, as buffers are.
 pub mod Tabulate
+pub mod Every
