@@ -1,3 +1,4 @@
 -- The laws of lists.
 pub mod Tabulated
+pub mod Somes
 pub mod Stretches

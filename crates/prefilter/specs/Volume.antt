@@ -1,0 +1,50 @@
+-- "Prefilter: axes 0, 1, 2 in turn." The lanes of an axis in a volume, and a filter along them.
+use Prim.Native.Nat.{ℕ, _+_, _-_, _*_, _/_, _%_, _≤_, _<_}
+use mathlib.Core.List.{List}
+use mathlib.Core.Path.{_≡_}
+use mathlib.Core.Bool.{cond}
+use lib.Dec.{eqb}
+use lib.ListN.{length, getD}
+use lib.Ieee.{Float, nan}
+use Rattle.border.specs.declared.BorderMode.{BorderMode}
+use Rattle.lists.specs.Tabulate.{tabulate}
+use Rattle.prefilter.specs.Poles.{polesOf, gainOf}
+use Rattle.prefilter.specs.Lane.{at, reflects, filterLane}
+
+-- the n numbers from place `start` on, `stride` apart
+unfoldable pub laneOf : ℕ → ℕ → ℕ → List Float → List Float
+unfolding tabulate
+laneOf n stride start xs = tabulate n (λ i. at xs (start + i * stride))
+
+-- how far along its lane place m stands
+abbrev pub along : ℕ → ℕ → ℕ → ℕ
+along n stride m = m / stride % n
+
+-- f applied to each lane
+unfoldable pub filterAlong : (List Float → List Float) → ℕ → ℕ → List Float → List Float
+unfolding laneOf tabulate
+filterAlong f n stride xs = tabulate (length xs) (λ m. at (f (laneOf n stride (m - along n stride m * stride) xs)) (along n stride m))
+
+-- an axis: its length, and how far apart its numbers stand
+abbrev pub lengthOf : ℕ → List ℕ → ℕ
+lengthOf axis d = getD d axis 0
+
+abbrev pub strideOf : ℕ → List ℕ → ℕ
+strideOf axis d = cond (eqb axis 0) (getD d 1 0 * getD d 2 0) (cond (eqb axis 1) (getD d 2 0) 1)
+
+unfoldable pub filterAxis : BorderMode → ℕ → List ℕ → ℕ → List Float → List Float
+unfolding filterAlong filterLane polesOf gainOf
+filterAxis mode order d axis xs = filterAlong (filterLane (reflects mode) (polesOf order) (gainOf (polesOf order))) (lengthOf axis d) (strideOf axis d) xs
+
+unfoldable pub filterVolume : BorderMode → ℕ → List ℕ → List Float → List Float
+unfolding filterAxis
+filterVolume mode order d xs = filterAxis mode order d 2 (filterAxis mode order d 1 (filterAxis mode order d 0 xs))
+
+abbrev pub countOf : List ℕ → ℕ
+countOf d = getD d 0 0 * (getD d 1 0 * getD d 2 0)
+
+-- three axes from 2 to 4,120 long, and a buffer of as many places
+pub record Sized (d : List ℕ) (count : ℕ) : Type 0 where
+  pub least : (axis : ℕ) → axis < 3 → 2 ≤ lengthOf axis d
+  pub most : (axis : ℕ) → axis < 3 → lengthOf axis d ≤ 4120
+  pub all : count ≡ countOf d
