@@ -1,0 +1,4 @@
+-- The laws of the replay.
+pub mod Patterns
+pub mod Reaching
+pub mod Sizes
