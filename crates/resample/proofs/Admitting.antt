@@ -1,0 +1,138 @@
+-- What follows where nothing is refused: the axes of the request can be reached, and the buffers have their lengths.
+use Prim.Native.Nat.{ℕ, _+_, _*_, _^_, _≤_, _<_}
+use native.Mathlib.Omega.{arith}
+use mathlib.Core.Path.{_≡_, refl, sym, ap, _∙_}
+use mathlib.Core.Bool.{Bool, true, false, not, _||_, true≢false}
+use mathlib.Core.List.{List}
+use lib.Dec.{T, ltb, lit≤, ltb→lt, eqb}
+use lib.ListN.{length, getD}
+use lib.Ieee.{Float, nan, inf, fin, up, down, lt, neg, ofInt}
+use borrow.Author.Tests.{eqb-true, ltb-false}
+use Rattle.exact.specs.Rounded.{num}
+use Rattle.exact.specs.Within.{Within}
+use Rattle.axis.specs.Coordinate.{shiftAxis, zoomAxis}
+use Rattle.axis.proofs.Reaches.{shift-reaches, zoom-reaches}
+use Rattle.prefilter.specs.Volume.{countOf}
+use Rattle.resample.specs.declared.request.Axes.{Axes}
+use Rattle.resample.specs.declared.request.Request.{Request}
+use Rattle.resample.specs.declared.counts.Counts.{Counts}
+use Rattle.resample.specs.declared.entry.Answer.the-variants as answer
+use Rattle.resample.specs.declared.entry.Answer.the-variants.{Done}
+use Rattle.resample.specs.declared.refusal.Refusal.{Refusal}
+use Rattle.resample.specs.declared.refusal.Verdict.{Verdict}
+use Rattle.resample.specs.declared.refusal.Verdict.the-variants.{Passed, Refused}
+use Rattle.resample.specs.Sizes.{needed, padding, zoomDims, shiftAxes, zoomAxes, Lengths, Zoomed}
+use Rattle.resample.specs.Refusals.{first, wrong, badShift, badFactors, shiftChecks, zoomChecks}
+use Rattle.resample.specs.Table.{Reaches}
+use Rattle.resample.specs.Call.{Admitted, callOf, callBy, valuesOf, codesOf, workAfter}
+use Rattle.resample.specs.Coverage.{countsOf}
+use Rattle.resample.proofs.Refusing.{all-clear}
+use Rattle.resample.proofs.Requests.{none-at, or-false, not-both, pad-most, good-lengths, good-zooms}
+
+-- ---- a shift that refusal 4 lets pass
+at-most : (n d : ℕ) → n * 1 < 1 * 2 ^ 20 * d → n ≤ 2 ^ 20 * d
+at-most n d h = omega arith
+
+shift-within : (s : Float) → T (lt (neg (num (2 ^ 20))) s) → T (lt s (num (2 ^ 20))) → Within 20 s
+unfolding lt ofInt neg
+shift-within nan a b = absurd a
+shift-within (inf true) a b = absurd a
+shift-within (inf false) a b = absurd b
+shift-within (fin true m e) a b = record { bound = at-most (m * up e) (down e) (ltb→lt (m * up e * 1) (1 * 2 ^ 20 * down e) a) }
+shift-within (fin false m e) a b = record { bound = at-most (m * up e) (down e) (ltb→lt (m * up e * 1) (1 * 2 ^ 20 * down e) b) }
+
+good-shifts : (f : List Float) → badFactors badShift f ≡ false → (i : ℕ) → i < 3 → Within 20 (getD f i nan)
+unfolding badFactors
+good-shifts f e i l =
+    let s = getD f i nan in
+    let h = not-both (lt (neg (num (2 ^ 20))) s) (lt s (num (2 ^ 20))) (none-at (λ (i : ℕ). badShift (getD f i nan)) 3 e i l) in
+    shift-within s (h .0) (h .1)
+
+-- ---- axes that can be reached
+module _ (order n pad : ℕ) (upto : order ≤ 5) (least : 2 ≤ n) (most : n ≤ 4096) (p : pad ≤ 12) where
+  shift-axis-reaches : (s : Float) → Within 20 s → Reaches order (shiftAxis n s pad)
+  shift-axis-reaches s w = record {
+    short = most;
+    each = λ i h. record { upto = upto; least = omega arith; most = omega arith; bound = shift-reaches n s pad i w p (omega arith) };
+  }
+
+  zoom-axis-reaches : (out : ℕ) → 2 ≤ out → out ≤ 4096 → Reaches order (zoomAxis n out pad)
+  zoom-axis-reaches out two o = record {
+    short = o;
+    each = λ i h. record { upto = upto; least = omega arith; most = omega arith; bound = zoom-reaches n out pad i most two o p (omega arith) };
+  }
+
+-- ---- lengths
+right : (a b : ℕ) → wrong a b ≡ false → a ≡ b
+right a b e = eqb-true a b (go (eqb a b) e)
+  where
+    go : (t : Bool) → not t ≡ false → t ≡ true
+    go true e = refl
+    go false e = absurd (true≢false e)
+
+record Lent (r : Request) (input output coverage work : ℕ) (out : List ℕ) : Type 0 where
+  all : input ≡ countOf (r .dims)
+  values : output ≡ countOf out
+  codes : coverage ≡ countOf out
+  room : needed r ≤ work
+
+module _ (r : Request) (input : List Float) (output coverage work : ℕ) where
+  lent : (out : List ℕ) → (wrong (length input) (countOf (r .dims)) || wrong output (countOf out) || wrong coverage (countOf out) || ltb work (needed r)) ≡ false → Lent r (length input) output coverage work out
+  lent out e =
+      let w = or-false (wrong (length input) (countOf (r .dims)) || wrong output (countOf out) || wrong coverage (countOf out)) (ltb work (needed r)) e in
+      let c = or-false (wrong (length input) (countOf (r .dims)) || wrong output (countOf out)) (wrong coverage (countOf out)) (w .0) in
+      let o = or-false (wrong (length input) (countOf (r .dims))) (wrong output (countOf out)) (c .0) in
+      record { all = right _ _ (o .0); values = right _ _ (o .1); codes = right _ _ (c .1); room = ltb-false work (needed r) (w .1) }
+
+  -- what an entry may then do
+  pub record Passes (a : Axes) : Type 0 where
+    pub admitted : Admitted r a (length input) output
+    pub codes : coverage ≡ a .x .out * (a .y .out * a .z .out)
+    pub room : needed r ≤ work
+
+  pub shift-passes : first (shiftChecks r input output coverage work) ≡ Passed → Passes (shiftAxes r)
+  shift-passes e =
+      let h = all-clear (shiftChecks r input output coverage work) e in
+      let b = lent (r .dims) (h .1 .1 .1 .1 .0) in
+      let d = good-lengths (r .dims) (h .1 .0) in
+      let s = good-shifts (r .factors) (h .1 .1 .0) in
+      let o = ltb-false 5 (r .order) (h .0) in
+      let p = pad-most r refl in
+      let axis : (i : ℕ) → i < 3 → Reaches (r .order) (shiftAxis (getD (r .dims) i 0) (getD (r .factors) i nan) (padding r)) = λ i l. shift-axis-reaches (r .order) (getD (r .dims) i 0) (padding r) o (d i l .0) (d i l .1) p (getD (r .factors) i nan) (s i l) in
+      record {
+        admitted = record { order = o; lengths = d; all = b .all; values = b .values; some = omega (arith, d 2 (lit≤ tt)); x = axis 0 (lit≤ tt); y = axis 1 (lit≤ tt); z = axis 2 (lit≤ tt); long = refl; rows = omega (arith, d 1 (lit≤ tt), p); row = omega (arith, d 2 (lit≤ tt), p) };
+        codes = b .codes;
+        room = b .room;
+      }
+
+  pub zoom-passes : first (zoomChecks r input output coverage work) ≡ Passed → Passes (zoomAxes r)
+  zoom-passes e =
+      let h = all-clear (zoomChecks r input output coverage work) e in
+      let b = lent (zoomDims r) (h .1 .1 .1 .1 .1 .0) in
+      let d = good-lengths (r .dims) (h .1 .0) in
+      let out = good-lengths (zoomDims r) (h .1 .1 .1 .0) in
+      let o = ltb-false 5 (r .order) (h .0) in
+      let p = pad-most r refl in
+      let axis : (i : ℕ) → i < 3 → Reaches (r .order) (zoomAxis (getD (r .dims) i 0) (getD (zoomDims r) i 0) (padding r)) = λ i l. zoom-axis-reaches (r .order) (getD (r .dims) i 0) (padding r) o (d i l .0) (d i l .1) p (getD (zoomDims r) i 0) (out i l .0) (out i l .1) in
+      record {
+        admitted = record { order = o; lengths = d; all = b .all; values = b .values; some = omega (arith, out 2 (lit≤ tt)); x = axis 0 (lit≤ tt); y = axis 1 (lit≤ tt); z = axis 2 (lit≤ tt); long = refl; rows = omega (arith, d 1 (lit≤ tt), p); row = omega (arith, d 2 (lit≤ tt), p) };
+        codes = b .codes;
+        room = b .room;
+      }
+
+  -- the output lengths of zoom are whole numbers, and lengths
+  pub zoom-ready : first (zoomChecks r input output coverage work) ≡ Passed → Zoomed r × Lengths (zoomDims r)
+  zoom-ready e = let h = all-clear (zoomChecks r input output coverage work) e in (good-zooms r (h .1 .0) (h .1 .1 .0), good-lengths (zoomDims r) (h .1 .1 .1 .0))
+
+-- ---- the call, by its verdict
+module _ (r : Request) (input output : List Float) (coverage : List ℕ) (work : List Float) {v : Verdict} where
+  pub call-passed :
+      (a' a : Axes) {counts : Counts} {values : List Float} {codes : List ℕ} {after : List Float} → v ≡ Passed → a' ≡ a → counts ≡ countsOf (codesOf r a') → values ≡ valuesOf r a' input → codes ≡ codesOf r a' → after ≡ workAfter r input work →
+      callOf (Done counts) values codes after ≡ callBy v r a input output coverage work
+  call-passed a' a q e n x c w =
+      (λ i. callOf (Done (n i)) (x i) (c i) (w i))
+      ∙ ap (λ (b : Axes). callBy Passed r b input output coverage work) e
+      ∙ ap (λ (u : Verdict). callBy u r a input output coverage work) (sym q)
+
+  pub call-refused : (a : Axes) (why : Refusal) → v ≡ Refused why → callOf (answer.Refused why) output coverage work ≡ callBy v r a input output coverage work
+  call-refused a why q = ap (λ (u : Verdict). callBy u r a input output coverage work) (sym q)

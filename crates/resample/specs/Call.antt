@@ -1,0 +1,105 @@
+-- "A refusal returns its number and counts 0, 0, 0; output, coverage and work hold what they held. Success returns the three counts and writes output and coverage fully. Work then begins with the filtered coefficients (needed count); the rest is untouched."
+use Prim.Native.Nat.{ℕ, _+_, _*_, _≤_}
+use mathlib.Core.Path.{_≡_}
+use mathlib.Core.Bool.{cond}
+use mathlib.Core.List.{List, _++_}
+use lib.Dec.{eqb, ltb}
+use lib.ListN.{length, getD, drop}
+use lib.Ieee.{Float}
+use Rattle.prefilter.specs.Edge.{padded}
+use Rattle.prefilter.specs.Volume.{filterAxis, filterVolume, countOf}
+use Rattle.resample.specs.declared.counts.Counts.{Counts}
+use Rattle.resample.specs.declared.entry.Answer.{Answer}
+use Rattle.resample.specs.declared.entry.Answer.the-variants as answer
+use Rattle.resample.specs.declared.refusal.Verdict.{Verdict}
+use Rattle.resample.specs.declared.refusal.Verdict.the-variants as verdict
+use Rattle.resample.specs.declared.request.Axes.{Axes}
+use Rattle.resample.specs.declared.request.Request.{Request}
+use Rattle.resample.specs.Sizes.{filters, padding, sourceDims, needed, shiftAxes, zoomAxes, Lengths}
+use Rattle.resample.specs.Refusals.{numberOf, first, shiftChecks, zoomChecks, splineFilterChecks, splineFilter1dChecks}
+use Rattle.resample.specs.Table.{Reaches}
+use Rattle.resample.specs.Coverage.{codes, countsOf, none}
+use Rattle.resample.specs.Voxel.{values}
+
+-- ---- what the sums read: "Nearest in `shift` and `zoom` first pads"
+unfoldable pub sourceOf : Request → List Float → List Float
+unfolding padded
+sourceOf r input = cond (eqb (padding r) 0) input (padded (r .dims) input)
+
+unfoldable pub coefficients : Request → List Float → List Float
+unfolding sourceOf filterVolume
+coefficients r input = cond (filters r) (filterVolume (r .mode) (r .order) (sourceDims r) (sourceOf r input)) input
+
+-- ---- shift and zoom
+-- the answer, and what the lent buffers then hold
+pub record Call : Type 0 where
+  pub answer : Answer
+  pub output : List Float
+  pub coverage : List ℕ
+  pub work : List Float
+
+abbrev pub callOf : Answer → List Float → List ℕ → List Float → Call
+callOf answer output coverage work = record { answer = answer; output = output; coverage = coverage; work = work }
+
+abbrev pub valuesOf : Request → Axes → List Float → List Float
+valuesOf r a input = values (r .order) (r .mode) (a .x) (a .y) (a .z) (coefficients r input)
+
+abbrev pub codesOf : Request → Axes → List ℕ
+codesOf r a = codes (r .mode) (a .x) (a .y) (a .z)
+
+abbrev pub workAfter : Request → List Float → List Float → List Float
+workAfter r input work = cond (filters r) (coefficients r input ++ drop (needed r) work) work
+
+abbrev pub callBy : Verdict → Request → Axes → List Float → List Float → List ℕ → List Float → Call
+callBy verdict.Passed r a input output coverage work = callOf (answer.Done (countsOf (codesOf r a))) (valuesOf r a input) (codesOf r a) (workAfter r input work)
+callBy (verdict.Refused why) r a input output coverage work = callOf (answer.Refused why) output coverage work
+
+unfoldable pub shiftCall : Request → List Float → List Float → List ℕ → List Float → Call
+shiftCall r input output coverage work = callBy (first (shiftChecks r input (length output) (length coverage) (length work))) r (shiftAxes r) input output coverage work
+
+unfoldable pub zoomCall : Request → List Float → List Float → List ℕ → List Float → Call
+zoomCall r input output coverage work = callBy (first (zoomChecks r input (length output) (length coverage) (length work))) r (zoomAxes r) input output coverage work
+
+-- document 01's number (0 for success) and counts of an answer
+abbrev pub numberIn : Answer → ℕ
+numberIn (answer.Done counts) = 0
+numberIn (answer.Refused why) = numberOf why
+
+abbrev pub countsIn : Answer → Counts
+countsIn (answer.Done counts) = counts
+countsIn (answer.Refused why) = none
+
+-- ---- the two filters: the verdict is their answer
+pub record FilterCall : Type 0 where
+  pub answer : Verdict
+  pub output : List Float
+
+abbrev pub filterCallOf : Verdict → List Float → FilterCall
+filterCallOf answer output = record { answer = answer; output = output }
+
+abbrev pub filterCallBy : Verdict → List Float → List Float → FilterCall
+filterCallBy verdict.Passed filtered output = filterCallOf verdict.Passed filtered
+filterCallBy (verdict.Refused why) filtered output = filterCallOf (verdict.Refused why) output
+
+unfoldable pub splineFilterCall : Request → List Float → List Float → FilterCall
+unfolding filterVolume
+splineFilterCall r input output = filterCallBy (first (splineFilterChecks r input (length output))) (filterVolume (r .mode) (r .order) (r .dims) input) output
+
+-- at orders 0 and 1 there is nothing to filter
+unfoldable pub splineFilter1dCall : Request → ℕ → List Float → List Float → FilterCall
+unfolding filterAxis
+splineFilter1dCall r axis input output = filterCallBy (first (splineFilter1dChecks r axis input (length output))) (cond (ltb 1 (r .order)) (filterAxis (r .mode) (r .order) (r .dims) axis input) input) output
+
+-- ---- what the engine asks of a request that no refusal met: the numbers are the lengths of input and output
+pub record Admitted (r : Request) (a : Axes) (input output : ℕ) : Type 0 where
+  pub order : r .order ≤ 5
+  pub lengths : Lengths (r .dims)
+  pub all : input ≡ countOf (r .dims)
+  pub values : output ≡ a .x .out * (a .y .out * a .z .out)
+  pub some : 1 ≤ a .z .out
+  pub x : Reaches (r .order) (a .x)
+  pub y : Reaches (r .order) (a .y)
+  pub z : Reaches (r .order) (a .z)
+  pub long : countOf (sourceDims r) ≡ a .x .len * (a .y .len * a .z .len)
+  pub rows : a .y .len ≤ 4120
+  pub row : a .z .len ≤ 4120
