@@ -11,7 +11,7 @@ pub struct Counts {
 }
 
 impl Counts {
-    pub fn none() -> Counts
+    pub(crate) fn none() -> Counts
         ensures { λ r. ⌜ r ≡ none ⌝ }
     {
         Counts {
@@ -22,7 +22,7 @@ impl Counts {
     }
 
     // The counts with one code more.
-    pub fn with(mut self, code: u8) -> Counts
+    pub(crate) fn with(mut self, code: u8) -> Counts
         requires { ⌜ total self < 18446744073709551615 ⌝ }
         ensures { λ r. ⌜ r ≡ withCode self code ⌝ }
     {
@@ -38,7 +38,7 @@ impl Counts {
 }
 
 // The counts of a coverage.
-pub fn count_codes(coverage: &[u8]) -> Counts
+pub(crate) fn count_codes(coverage: &[u8]) -> Counts
     ensures { λ r. ⌜ r ≡ countsOf (now (coverage .entry)) ⌝ }
 {
     let mut counts = Counts::none();

@@ -10,7 +10,7 @@ use axis::coordinate::settled_at;
 use border::BorderMode;
 
 // The code of a dropped voxel.
-pub fn drop_code(mode: BorderMode) -> u8
+pub(crate) fn drop_code(mode: BorderMode) -> u8
     ensures { λ r. ⌜ r ≡ dropCode mode ⌝ }
 {
     match mode {
@@ -22,14 +22,14 @@ pub fn drop_code(mode: BorderMode) -> u8
     }
 }
 
-pub fn is_kept(a: Axis, i: usize, mode: BorderMode) -> bool
+pub(crate) fn is_kept(a: Axis, i: usize, mode: BorderMode) -> bool
     ensures { λ r. ⌜ r ≡ keptAt mode a i ⌝ }
 {
     settled_at(a, i, mode) > -1.0
 }
 
 // Which output indices of an axis are kept.
-pub fn mark_kept(kept: &mut [bool], a: Axis, mode: BorderMode)
+pub(crate) fn mark_kept(kept: &mut [bool], a: Axis, mode: BorderMode)
     requires { ⌜ a .out ≤ length (now kept) ⌝ }
     ensures { λ _. ⌜ Filled (keptAt mode a) false (now (kept .exit)) (a .out) ⌝ }
 {
@@ -81,7 +81,7 @@ fn cover_plane(plane: &mut [u8], kept: &[bool], ya: Axis, row: usize, first: boo
     }
 }
 
-pub fn both(a: bool, b: bool) -> bool
+pub(crate) fn both(a: bool, b: bool) -> bool
     ensures { λ r. ⌜ r ≡ a && b ⌝ }
 {
     if a { b } else { false }
@@ -119,7 +119,7 @@ fn cover_planes(
 }
 
 // The whole coverage.
-pub fn cover(coverage: &mut [u8], xa: Axis, ya: Axis, za: Axis, mode: BorderMode)
+pub(crate) fn cover(coverage: &mut [u8], xa: Axis, ya: Axis, za: Axis, mode: BorderMode)
     requires { ⌜ length (now coverage) ≡ xa .out * (ya .out * za .out) ⌝ }
     requires { ⌜ (ya .out ≤ 4096) × ((1 ≤ za .out) × (za .out ≤ 4096)) ⌝ }
     ensures { λ _. ⌜ now (coverage .exit) ≡ codes mode xa ya za ⌝ }

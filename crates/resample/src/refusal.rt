@@ -32,7 +32,7 @@ fn bad_length(n: usize) -> bool
     n > 4096
 }
 
-pub fn bad_lengths(d: [usize; 3]) -> bool
+pub(crate) fn bad_lengths(d: [usize; 3]) -> bool
     ensures { λ r. ⌜ r ≡ badLengths d ⌝ }
 {
     if bad_length(d[0]) {
@@ -55,7 +55,7 @@ fn bad_shift(s: f64) -> bool
     true
 }
 
-pub fn bad_shifts(f: [f64; 3]) -> bool
+pub(crate) fn bad_shifts(f: [f64; 3]) -> bool
     ensures { λ r. ⌜ r ≡ badFactors badShift f ⌝ }
 {
     if bad_shift(f[0]) {
@@ -78,7 +78,7 @@ fn bad_zoom(f: f64) -> bool
     true
 }
 
-pub fn bad_zooms(f: [f64; 3]) -> bool
+pub(crate) fn bad_zooms(f: [f64; 3]) -> bool
     ensures { λ r. ⌜ r ≡ badFactors badZoom f ⌝ }
 {
     if bad_zoom(f[0]) {
@@ -101,7 +101,7 @@ fn is_wild(v: f64) -> bool
     true
 }
 
-pub fn wild_fill(mode: BorderMode) -> bool
+pub(crate) fn wild_fill(mode: BorderMode) -> bool
     ensures { λ r. ⌜ r ≡ wildFill mode ⌝ }
 {
     match mode {
@@ -113,7 +113,7 @@ pub fn wild_fill(mode: BorderMode) -> bool
     }
 }
 
-pub fn some_wild(input: &[f64]) -> bool
+pub(crate) fn some_wild(input: &[f64]) -> bool
     ensures { λ r. ⌜ r ≡ someWild (now (input .entry)) ⌝ }
 {
     let mut i = 0;
@@ -126,7 +126,7 @@ pub fn some_wild(input: &[f64]) -> bool
     false
 }
 
-pub fn is_beside(a: Axis, mode: BorderMode) -> bool
+pub(crate) fn is_beside(a: Axis, mode: BorderMode) -> bool
     ensures { λ r. ⌜ r ≡ someBeside mode a ⌝ }
 {
     some_beside(a, mode)

@@ -25,21 +25,21 @@ pub struct Axes {
     pub z: Axis,
 }
 
-pub fn count_of(d: [usize; 3]) -> usize
+pub(crate) fn count_of(d: [usize; 3]) -> usize
     requires { ⌜ Small d ⌝ }
     ensures { λ r. ⌜ r ≡ countOf d ⌝ }
 {
     d[0] * (d[1] * d[2])
 }
 
-pub fn filters(r: Request) -> bool
+pub(crate) fn filters(r: Request) -> bool
     ensures { λ b. ⌜ b ≡ filters r ⌝ }
 {
     if r.prefilter { r.order > 1 } else { false }
 }
 
 // The lengths of what the sums read.
-pub fn source_dims(r: Request) -> [usize; 3]
+pub(crate) fn source_dims(r: Request) -> [usize; 3]
     requires { ⌜ Lengths (r .dims) ⌝ }
     ensures { λ d. ⌜ d ≡ sourceDims r ⌝ }
 {
@@ -50,7 +50,7 @@ pub fn source_dims(r: Request) -> [usize; 3]
 }
 
 // How many places of work are needed.
-pub fn needed(r: Request) -> usize
+pub(crate) fn needed(r: Request) -> usize
     requires { ⌜ Lengths (r .dims) ⌝ }
     ensures { λ n. ⌜ n ≡ needed r ⌝ }
 {
@@ -61,7 +61,7 @@ pub fn needed(r: Request) -> usize
     }
 }
 
-pub fn zoom_dims(r: Request) -> [usize; 3]
+pub(crate) fn zoom_dims(r: Request) -> [usize; 3]
     requires { ⌜ Zoomed r ⌝ }
     ensures { λ d. ⌜ d ≡ zoomDims r ⌝ }
 {
@@ -74,7 +74,7 @@ pub fn zoom_dims(r: Request) -> [usize; 3]
     ]
 }
 
-pub fn shift_axes(r: Request) -> Axes
+pub(crate) fn shift_axes(r: Request) -> Axes
     requires { ⌜ Lengths (r .dims) ⌝ }
     ensures { λ a. ⌜ a ≡ shiftAxes r ⌝ }
 {
@@ -89,7 +89,7 @@ pub fn shift_axes(r: Request) -> Axes
     }
 }
 
-pub fn zoom_axes(r: Request, out: [usize; 3]) -> Axes
+pub(crate) fn zoom_axes(r: Request, out: [usize; 3]) -> Axes
     requires { ⌜ Lengths (r .dims) ⌝ }
     requires { ⌜ (out ≡ zoomDims r) × Lengths out ⌝ }
     ensures { λ a. ⌜ a ≡ zoomAxes r ⌝ }

@@ -156,7 +156,7 @@ fn places_at(w: &[usize], i: usize) -> Places
 
 // The sums of the voxels at places o to o + 3 of a row. Each place of the table names one of the row,
 // so a sum whose place is dropped, or past the end of the row, is of no use but does no harm.
-pub fn sum_four(
+pub(crate) fn sum_four(
     data: &[f64],
     plane: usize,
     row: usize,

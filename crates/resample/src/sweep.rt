@@ -326,7 +326,7 @@ fn value_planes(
 }
 
 // The whole volume, from the voxels or coefficients of the source.
-pub fn sweep(
+pub(crate) fn sweep(
     out: &mut [f64],
     data: &[f64],
     xa: Axis,

@@ -122,7 +122,7 @@ fn resample_verdict(
     Verdict::Passed
 }
 
-pub fn shift_verdict(
+pub(crate) fn shift_verdict(
     r: Request,
     input: &[f64],
     output: usize,
@@ -145,7 +145,7 @@ pub fn shift_verdict(
     resample_verdict(r, input, output, coverage, work, dims, shift_axes(r))
 }
 
-pub fn zoom_verdict(
+pub(crate) fn zoom_verdict(
     r: Request,
     input: &[f64],
     output: usize,
@@ -197,7 +197,7 @@ fn filter_verdict(r: Request, input: &[f64], output: usize) -> Verdict
     Verdict::Passed
 }
 
-pub fn spline_filter_verdict(r: Request, input: &[f64], output: usize) -> Verdict
+pub(crate) fn spline_filter_verdict(r: Request, input: &[f64], output: usize) -> Verdict
     ensures { λ v. ⌜ v ≡ first (splineFilterChecks r (now (input .entry)) output) ⌝ }
 {
     if r.order < 2 {
@@ -209,7 +209,7 @@ pub fn spline_filter_verdict(r: Request, input: &[f64], output: usize) -> Verdic
     filter_verdict(r, input, output)
 }
 
-pub fn spline_filter1d_verdict(r: Request, axis: usize, input: &[f64], output: usize) -> Verdict
+pub(crate) fn spline_filter1d_verdict(r: Request, axis: usize, input: &[f64], output: usize) -> Verdict
     ensures { λ v. ⌜ v ≡ first (splineFilter1dChecks r axis (now (input .entry)) output) ⌝ }
 {
     if r.order > 5 {
