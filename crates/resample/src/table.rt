@@ -32,7 +32,13 @@ fn put_weights(table: &mut [f64], column: &[f64; 6], i: usize)
 }
 
 // The columns of all output indices.
-pub(crate) fn fill_table(at: &mut [usize], weight: &mut [f64], a: Axis, order: usize, mode: BorderMode)
+pub(crate) fn fill_table(
+    at: &mut [usize],
+    weight: &mut [f64],
+    a: Axis,
+    order: usize,
+    mode: BorderMode,
+)
     requires { ⌜ Reaches order a ⌝ }
     requires { ⌜ Tabled order mode a (now at) (now weight) 0 ⌝ }
     ensures { λ _. ⌜ Tabled order mode a (now (at .exit)) (now (weight .exit)) (a .out) ⌝ }

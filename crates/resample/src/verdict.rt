@@ -209,7 +209,12 @@ pub(crate) fn spline_filter_verdict(r: Request, input: &[f64], output: usize) ->
     filter_verdict(r, input, output)
 }
 
-pub(crate) fn spline_filter1d_verdict(r: Request, axis: usize, input: &[f64], output: usize) -> Verdict
+pub(crate) fn spline_filter1d_verdict(
+    r: Request,
+    axis: usize,
+    input: &[f64],
+    output: usize,
+) -> Verdict
     ensures { λ v. ⌜ v ≡ first (splineFilter1dChecks r axis (now (input .entry)) output) ⌝ }
 {
     if r.order > 5 {
