@@ -9,7 +9,7 @@ use lib.Seq.{ext-getD}
 use lib.Ieee.{Float, nan}
 use Rattle.lists.proofs.Tabulated.{length-tabulate, getD-tabulate, tabulate-same}
 use Rattle.lists.proofs.Stretches.{in-part, part-length}
-use Rattle.prefilter.specs.Lane.{at}
+use Rattle.lane.specs.Lane.{at}
 use Rattle.prefilter.specs.Volume.{laneOf, along, filterAlong}
 use Rattle.prefilter.proofs.Grids.{along-block, start-within, stays}
 

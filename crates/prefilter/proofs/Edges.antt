@@ -11,7 +11,7 @@ use lib.Ieee.{Float, nan}
 use Rattle.lists.specs.Tabulate.{Filled}
 use Rattle.lists.proofs.Tabulated.{getD-tabulate, is-tabulate}
 use Rattle.lists.proofs.Stretches.{next, splice, in-part}
-use Rattle.prefilter.specs.Lane.{at}
+use Rattle.lane.specs.Lane.{at}
 use Rattle.prefilter.specs.Volume.{countOf}
 use Rattle.prefilter.proofs.Blocks.{lent}
 use Rattle.prefilter.specs.Edge.{clamped, paddedDims, paddedRow, paddedPlane, padded}

@@ -1,10 +1,4 @@
--- The laws that the proofs of the functions cite, and the theorem on the poles (`Roots`).
-pub mod Roots
-pub mod Powers
-pub mod Held
-pub mod Passes
-pub mod Starts
-pub mod Filters
+-- The laws of lanes in a volume, of axes and of the pad.
 pub mod Grids
 pub mod Alongs
 pub mod Writing

@@ -9,7 +9,7 @@ use native.Mathlib.Nat.{mod-lt}
 use lib.ListN.{length}
 use lib.Seq.{ext-getD}
 use lib.Ieee.{Float, nan}
-use Rattle.prefilter.specs.Lane.{at}
+use Rattle.lane.specs.Lane.{at}
 use Rattle.prefilter.specs.Volume.{laneOf, along, filterAlong}
 use Rattle.prefilter.specs.Lanes.{Grid, Written, Replaced, lanesBy}
 use Rattle.prefilter.proofs.Grids.{on-lane, apart}

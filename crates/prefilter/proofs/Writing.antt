@@ -9,7 +9,7 @@ use native.Mathlib.Nat.{not-suc-le-zero, mul-lt-mul-of-pos-right}
 use lib.ListN.{length, take, set, length-set}
 use lib.Seq.{getD-set-same, getD-set-other, getD-take}
 use lib.Ieee.{Float, nan}
-use Rattle.prefilter.specs.Lane.{at}
+use Rattle.lane.specs.Lane.{at}
 use Rattle.prefilter.specs.Lanes.{Written}
 
 pub nothing : (stride start : ℕ) (c xs : List Float) → Written 0 stride start c xs xs

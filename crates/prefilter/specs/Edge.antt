@@ -4,7 +4,7 @@ use mathlib.Core.List.{List, [], _∷_}
 use lib.ListN.{length, getD}
 use lib.Ieee.{Float}
 use Rattle.lists.specs.Tabulate.{tabulate}
-use Rattle.prefilter.specs.Lane.{at}
+use Rattle.lane.specs.Lane.{at}
 use Rattle.prefilter.specs.Volume.{countOf}
 
 -- the index that padded index k copies, on an axis of n voxels: k - 12, but from 0 to n - 1

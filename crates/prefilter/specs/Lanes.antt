@@ -5,7 +5,7 @@ use mathlib.Core.Logic.{_⊎_}
 use mathlib.Core.List.{List}
 use lib.ListN.{length}
 use lib.Ieee.{Float}
-use Rattle.prefilter.specs.Lane.{at}
+use Rattle.lane.specs.Lane.{at}
 use Rattle.prefilter.specs.Volume.{laneOf}
 
 -- lanes of n numbers fill a buffer: side by side, as those of an axis whose numbers lie in different rows or planes, or end to end, as rows

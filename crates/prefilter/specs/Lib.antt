@@ -1,8 +1,4 @@
--- The prefilter: poles, powers, a lane's filter, the filter of a volume, and the edge pad.
-pub mod Poles
-pub mod Roots
-pub mod Power
-pub mod Lane
+-- The prefilter: the filter of a volume, lane by lane and axis by axis, and the edge pad.
 pub mod Volume
 pub mod Lanes
 pub mod Edge

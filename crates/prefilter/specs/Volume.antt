@@ -8,8 +8,8 @@ use lib.ListN.{length, getD}
 use lib.Ieee.{Float, nan}
 use Rattle.border.specs.declared.BorderMode.{BorderMode}
 use Rattle.lists.specs.Tabulate.{tabulate}
-use Rattle.prefilter.specs.Poles.{polesOf, gainOf}
-use Rattle.prefilter.specs.Lane.{at, reflects, filterLane}
+use Rattle.lane.specs.Poles.{polesOf, gainOf}
+use Rattle.lane.specs.Lane.{at, reflects, filterLane}
 
 -- the n numbers from place `start` on, `stride` apart
 unfoldable pub laneOf : ℕ → ℕ → ℕ → List Float → List Float

@@ -13,21 +13,21 @@ use Rattle.exact.specs.Within.{Within}
 use Rattle.axis.specs.Coordinate.{shiftAxis, zoomAxis}
 use Rattle.axis.proofs.Reaches.{shift-reaches, zoom-reaches}
 use Rattle.prefilter.specs.Volume.{countOf}
-use Rattle.resample.specs.declared.request.Axes.{Axes}
-use Rattle.resample.specs.declared.request.Request.{Request}
-use Rattle.resample.specs.declared.counts.Counts.{Counts}
-use Rattle.resample.specs.declared.entry.Answer.the-variants as answer
-use Rattle.resample.specs.declared.entry.Answer.the-variants.{Done}
-use Rattle.resample.specs.declared.refusal.Refusal.{Refusal}
-use Rattle.resample.specs.declared.refusal.Verdict.{Verdict}
-use Rattle.resample.specs.declared.refusal.Verdict.the-variants.{Passed, Refused}
-use Rattle.resample.specs.Sizes.{needed, padding, zoomDims, shiftAxes, zoomAxes, Lengths, Zoomed}
-use Rattle.resample.specs.Refusals.{first, wrong, badShift, badFactors, shiftChecks, zoomChecks}
-use Rattle.resample.specs.Table.{Reaches}
+use Rattle.request.specs.declared.Axes.{Axes}
+use Rattle.request.specs.declared.Request.{Request}
+use Rattle.voxels.specs.declared.counts.Counts.{Counts}
+use Rattle.resample.specs.declared.Answer.the-variants as answer
+use Rattle.resample.specs.declared.Answer.the-variants.{Done}
+use Rattle.request.specs.declared.refusal.Refusal.{Refusal}
+use Rattle.request.specs.declared.refusal.Verdict.{Verdict}
+use Rattle.request.specs.declared.refusal.Verdict.the-variants.{Passed, Refused}
+use Rattle.request.specs.Sizes.{needed, padding, zoomDims, shiftAxes, zoomAxes, Lengths, Zoomed}
+use Rattle.request.specs.Refusals.{first, wrong, badShift, badFactors, shiftChecks, zoomChecks}
+use Rattle.voxels.specs.Table.{Reaches}
 use Rattle.resample.specs.Call.{Admitted, callOf, callBy, valuesOf, codesOf, workAfter}
-use Rattle.resample.specs.Coverage.{countsOf}
-use Rattle.resample.proofs.Refusing.{all-clear}
-use Rattle.resample.proofs.Requests.{none-at, or-false, not-both, pad-most, good-lengths, good-zooms}
+use Rattle.voxels.specs.Coverage.{countsOf}
+use Rattle.request.proofs.Refusing.{all-clear}
+use Rattle.request.proofs.Requests.{none-at, or-false, not-both, pad-most, good-lengths, good-zooms}
 
 -- ---- a shift that refusal 4 lets pass
 at-most : (n d : ℕ) → n * 1 < 1 * 2 ^ 20 * d → n ≤ 2 ^ 20 * d

@@ -8,15 +8,15 @@ use lib.ListN.{length}
 use lib.Ieee.{Float}
 use borrow.Author.Tests.{ltb-false, eqb-true, not-false}
 use Rattle.prefilter.specs.Volume.{countOf, Sized}
-use Rattle.resample.specs.declared.request.Request.{Request}
-use Rattle.resample.specs.declared.refusal.Refusal.{Refusal}
-use Rattle.resample.specs.declared.refusal.Verdict.{Verdict}
-use Rattle.resample.specs.declared.refusal.Verdict.the-variants.{Passed, Refused}
-use Rattle.resample.specs.Sizes.{Lengths}
-use Rattle.resample.specs.Refusals.{first, filterChecks, splineFilterChecks, splineFilter1dChecks}
+use Rattle.request.specs.declared.Request.{Request}
+use Rattle.request.specs.declared.refusal.Refusal.{Refusal}
+use Rattle.request.specs.declared.refusal.Verdict.{Verdict}
+use Rattle.request.specs.declared.refusal.Verdict.the-variants.{Passed, Refused}
+use Rattle.request.specs.Sizes.{Lengths}
+use Rattle.request.specs.Refusals.{first, filterChecks, splineFilterChecks, splineFilter1dChecks}
 use Rattle.resample.specs.Call.{filterCallOf, filterCallBy}
-use Rattle.resample.proofs.Refusing.{Clear, all-clear}
-use Rattle.resample.proofs.Requests.{or-false, good-lengths}
+use Rattle.request.proofs.Refusing.{Clear, all-clear}
+use Rattle.request.proofs.Requests.{or-false, good-lengths}
 
 -- ---- what the filters then know; the numbers are the lengths of the buffers
 pub record Filters (r : Request) (input output : ℕ) : Type 0 where

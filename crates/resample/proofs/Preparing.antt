@@ -11,10 +11,10 @@ use borrow.Author.Tests.{eq-eqb, ne-eqb, ltb-true}
 use Rattle.axis.specs.Coordinate.{isNearest}
 use Rattle.prefilter.specs.Edge.{padded, paddedDims}
 use Rattle.prefilter.specs.Volume.{filterVolume, lengthOf, countOf, Sized}
-use Rattle.resample.specs.declared.request.Request.{Request}
-use Rattle.resample.specs.Sizes.{filters, padding, sourceDims, needed, Lengths}
+use Rattle.request.specs.declared.Request.{Request}
+use Rattle.request.specs.Sizes.{filters, padding, sourceDims, needed, Lengths}
 use Rattle.resample.specs.Call.{sourceOf, coefficients, workAfter}
-use Rattle.resample.proofs.Requests.{pad-most}
+use Rattle.request.proofs.Requests.{pad-most}
 
 -- lengths that refusal 3 lets pass, and a buffer of as many places
 pub sized : (d : List ℕ) (count : ℕ) → Lengths d → count ≡ countOf d → Sized d count

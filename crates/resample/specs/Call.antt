@@ -8,18 +8,18 @@ use lib.ListN.{length, getD, drop}
 use lib.Ieee.{Float}
 use Rattle.prefilter.specs.Edge.{padded}
 use Rattle.prefilter.specs.Volume.{filterAxis, filterVolume, countOf}
-use Rattle.resample.specs.declared.counts.Counts.{Counts}
-use Rattle.resample.specs.declared.entry.Answer.{Answer}
-use Rattle.resample.specs.declared.entry.Answer.the-variants as answer
-use Rattle.resample.specs.declared.refusal.Verdict.{Verdict}
-use Rattle.resample.specs.declared.refusal.Verdict.the-variants as verdict
-use Rattle.resample.specs.declared.request.Axes.{Axes}
-use Rattle.resample.specs.declared.request.Request.{Request}
-use Rattle.resample.specs.Sizes.{filters, padding, sourceDims, needed, shiftAxes, zoomAxes, Lengths}
-use Rattle.resample.specs.Refusals.{numberOf, first, shiftChecks, zoomChecks, splineFilterChecks, splineFilter1dChecks}
-use Rattle.resample.specs.Table.{Reaches}
-use Rattle.resample.specs.Coverage.{codes, countsOf, none}
-use Rattle.resample.specs.Voxel.{values}
+use Rattle.voxels.specs.declared.counts.Counts.{Counts}
+use Rattle.resample.specs.declared.Answer.{Answer}
+use Rattle.resample.specs.declared.Answer.the-variants as answer
+use Rattle.request.specs.declared.refusal.Verdict.{Verdict}
+use Rattle.request.specs.declared.refusal.Verdict.the-variants as verdict
+use Rattle.request.specs.declared.Axes.{Axes}
+use Rattle.request.specs.declared.Request.{Request}
+use Rattle.request.specs.Sizes.{filters, padding, sourceDims, needed, shiftAxes, zoomAxes, Lengths}
+use Rattle.request.specs.Refusals.{numberOf, first, shiftChecks, zoomChecks, splineFilterChecks, splineFilter1dChecks}
+use Rattle.voxels.specs.Table.{Reaches}
+use Rattle.voxels.specs.Coverage.{codes, countsOf, none}
+use Rattle.voxels.specs.Voxel.{values}
 
 -- ---- what the sums read: "Nearest in `shift` and `zoom` first pads"
 unfoldable pub sourceOf : Request → List Float → List Float

@@ -1,10 +1,2 @@
--- The resampler: what a call means.
-pub mod Sizes
-pub mod Refusals
-pub mod Sum
-pub mod Lent
-pub mod Table
-pub mod Coverage
-pub mod Voxel
-pub mod Sweep
+-- The four entries: what a call means.
 pub mod Call

@@ -1,10 +1,97 @@
-// The resampler: a request, its nine refusals, the sums, coverage and counts, and the four entries.
-pub mod counts;
-mod cover;
-pub mod entry;
-pub mod refusal;
-pub mod request;
-mod sum;
-mod sweep;
-mod table;
-mod verdict;
+// The four entries. Each refuses, or prepares the coefficients and sweeps; no caller has checked anything.
+ghost use mathlib.Core.Path.{_≡_};
+ghost use Rattle.resample.specs.Call.{callOf, shiftCall, zoomCall, filterCallOf, splineFilterCall, splineFilter1dCall};
+use crate::write::write_codes;
+use crate::write::write_values;
+use prefilter::edge::copy;
+use prefilter::volume::filter_axis;
+use prefilter::volume::filter_volume;
+use request::Request;
+use request::refusal::Refusal;
+use request::refusal::Verdict;
+use request::sizes::shift_axes;
+use request::sizes::zoom_axes;
+use request::sizes::zoom_dims;
+use request::verdict::shift_verdict;
+use request::verdict::spline_filter_verdict;
+use request::verdict::spline_filter1d_verdict;
+use request::verdict::zoom_verdict;
+use voxels::counts::Counts;
+
+mod write;
+
+// The counts of a success, or why there is none.
+pub enum Answer {
+    Done(Counts),
+    Refused(Refusal),
+}
+
+pub fn shift(
+    r: Request,
+    input: &[f64],
+    output: &mut [f64],
+    coverage: &mut [u8],
+    work: &mut [f64],
+) -> Answer
+    ensures { λ answer. ⌜ callOf answer (now (output .exit)) (now (coverage .exit)) (now (work .exit)) ≡ shiftCall r (now (input .entry)) (now (output .entry)) (now (coverage .entry)) (now (work .entry)) ⌝ }
+{
+    match shift_verdict(r, input, output.len(), coverage.len(), work.len()) {
+        Verdict::Passed => {
+            let a = shift_axes(r);
+            write_values(r, a, input, output, work);
+            Answer::Done(write_codes(r, a, coverage))
+        }
+        Verdict::Refused(why) => Answer::Refused(why),
+    }
+}
+
+pub fn zoom(
+    r: Request,
+    input: &[f64],
+    output: &mut [f64],
+    coverage: &mut [u8],
+    work: &mut [f64],
+) -> Answer
+    ensures { λ answer. ⌜ callOf answer (now (output .exit)) (now (coverage .exit)) (now (work .exit)) ≡ zoomCall r (now (input .entry)) (now (output .entry)) (now (coverage .entry)) (now (work .entry)) ⌝ }
+{
+    match zoom_verdict(r, input, output.len(), coverage.len(), work.len()) {
+        Verdict::Passed => {
+            let a = zoom_axes(r, zoom_dims(r));
+            write_values(r, a, input, output, work);
+            Answer::Done(write_codes(r, a, coverage))
+        }
+        Verdict::Refused(why) => Answer::Refused(why),
+    }
+}
+
+pub fn spline_filter(r: Request, input: &[f64], output: &mut [f64]) -> Verdict
+    ensures { λ answer. ⌜ filterCallOf answer (now (output .exit)) ≡ splineFilterCall r (now (input .entry)) (now (output .entry)) ⌝ }
+{
+    match spline_filter_verdict(r, input, output.len()) {
+        Verdict::Passed => {
+            let dims = r.dims;
+            let mode = r.mode;
+            copy(output, input);
+            filter_volume(output, dims, r.order, mode);
+            Verdict::Passed
+        }
+        Verdict::Refused(why) => Verdict::Refused(why),
+    }
+}
+
+pub fn spline_filter1d(r: Request, axis: usize, input: &[f64], output: &mut [f64]) -> Verdict
+    ensures { λ answer. ⌜ filterCallOf answer (now (output .exit)) ≡ splineFilter1dCall r axis (now (input .entry)) (now (output .entry)) ⌝ }
+{
+    match spline_filter1d_verdict(r, axis, input, output.len()) {
+        Verdict::Passed => {
+            let dims = r.dims;
+            let mode = r.mode;
+            copy(output, input);
+            if r.order > 1 {
+                filter_axis(output, dims, axis, r.order, mode);
+            }
+            Verdict::Passed
+        }
+        Verdict::Refused(why) => Verdict::Refused(why),
+    }
+}

@@ -9,7 +9,7 @@ use lib.Seq.{ext-getD}
 use lib.Ieee.{nan}
 use Rattle.lists.specs.Tabulate.{Filled}
 use Rattle.lists.proofs.Stretches.{store}
-use Rattle.prefilter.specs.Lane.{at}
+use Rattle.lane.specs.Lane.{at}
 use Rattle.prefilter.proofs.edge.copy.Statement.{statement}
 use Rattle.prefilter.proofs.edge.copy.Tie as tie
 

@@ -8,7 +8,7 @@ use lib.ListN.{length, length-set}
 use lib.Ieee.{nan}
 use Rattle.lists.specs.Tabulate.{Filled}
 use Rattle.lists.proofs.Stretches.{store}
-use Rattle.prefilter.specs.Lane.{at}
+use Rattle.lane.specs.Lane.{at}
 use Rattle.prefilter.specs.Edge.{clamped}
 use Rattle.prefilter.proofs.Edges.{clamped-within, is-row}
 use Rattle.prefilter.proofs.edge.pad_row.Statement.{statement}

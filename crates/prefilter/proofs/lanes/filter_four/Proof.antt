@@ -5,8 +5,8 @@ use mathlib.Core.List.{List}
 use borrow.Author.Needs.{needs}
 use native.Mathlib.Omega.{arith}
 use lib.Ieee.{Float}
-use Rattle.prefilter.specs.Poles.{polesIn}
-use Rattle.prefilter.specs.Lane.{filterLane}
+use Rattle.lane.specs.Poles.{polesIn}
+use Rattle.lane.specs.Lane.{filterLane}
 use Rattle.prefilter.proofs.Grids.{lanes-few, of-length}
 use Rattle.prefilter.proofs.Replacements.{four}
 use Rattle.prefilter.proofs.lanes.filter_four.Statement.{statement}

@@ -9,7 +9,7 @@ use lib.Ieee.{nan}
 use Rattle.lists.specs.Tabulate.{Filled}
 use Rattle.lists.proofs.Tabulated.{take-tabulate}
 use Rattle.lists.proofs.Stretches.{store}
-use Rattle.prefilter.specs.Lane.{at}
+use Rattle.lane.specs.Lane.{at}
 use Rattle.prefilter.specs.Volume.{laneOf}
 use Rattle.prefilter.proofs.Grids.{reaches}
 use Rattle.prefilter.proofs.lanes.take_lane.Statement.{statement}

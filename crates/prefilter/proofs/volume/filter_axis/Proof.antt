@@ -6,8 +6,8 @@ use borrow.Author.Needs.{needs}
 use native.Mathlib.Omega.{arith}
 use lib.Dec.{lit≤}
 use lib.Ieee.{Float}
-use Rattle.prefilter.specs.Poles.{polesIn, Sound}
-use Rattle.prefilter.specs.Lane.{filterLane}
+use Rattle.lane.specs.Poles.{polesIn, Sound}
+use Rattle.lane.specs.Lane.{filterLane}
 use Rattle.prefilter.specs.Volume.{filterAlong, filterAxis, lengthOf, strideOf}
 use Rattle.prefilter.proofs.Axes.{plane-small, across, across-count, down, down-count, rows, some, along-axis}
 use Rattle.prefilter.proofs.volume.filter_axis.Statement.{statement}

@@ -1,0 +1,3 @@
+-- The laws of requests and refusals.
+pub mod Refusing
+pub mod Requests

@@ -1,0 +1,73 @@
+-- The tests behind the refusals, by the steps that the code takes.
+use Prim.Native.Nat.{ℕ, _<_}
+use mathlib.Core.Path.{_≡_, refl, sym, _∙_, subst}
+use mathlib.Core.Bool.{Bool, true, false, not, _&&_, cond}
+use mathlib.Core.List.{List, [], _∷_}
+use Rattle.lists.specs.Some.{someBelow}
+use Rattle.lists.proofs.Somes.{some-none, some-at}
+use Rattle.border.specs.declared.BorderMode.{BorderMode}
+use Rattle.axis.specs.declared.coordinate.Axis.{Axis}
+use Rattle.axis.specs.Point.{pointAt, besideAt}
+use Rattle.axis.proofs.Points.{beside-mark, mark-beside}
+use Rattle.request.specs.declared.refusal.Refusal.{Refusal}
+use Rattle.request.specs.declared.refusal.Verdict.{Verdict}
+use Rattle.request.specs.declared.refusal.Verdict.the-variants.{Passed, Refused}
+use Rattle.request.specs.Refusals.{Check, first, someBeside}
+
+-- ---- three axes, one after the other
+module _ (bad : ℕ → Bool) where
+  pub at-first : bad 0 ≡ true → true ≡ someBelow bad 3
+  unfolding someBelow
+  at-first p = simp p
+
+  pub at-second : bad 0 ≡ false → bad 1 ≡ true → true ≡ someBelow bad 3
+  unfolding someBelow
+  at-second p q = simp (p, q)
+
+  pub at-third : bad 0 ≡ false → bad 1 ≡ false → {r : Bool} → r ≡ bad 2 → r ≡ someBelow bad 3
+  unfolding someBelow
+  at-third p q e = e ∙ simp (p, q)
+
+-- ---- a number that must lie between two others
+pub between : {a b : Bool} → a ≡ true → b ≡ true → false ≡ not (a && b)
+between p q = simp (p, q)
+
+pub not-above : {a b : Bool} → a ≡ true → b ≡ false → true ≡ not (a && b)
+not-above p q = simp (p, q)
+
+pub not-below : {a : Bool} (b : Bool) → a ≡ false → true ≡ not (a && b)
+not-below b p = simp p
+
+-- ---- an axis with a place outside
+pub beside-by : (mode : BorderMode) (a : Axis) (r : Bool) → (r ≡ true → (i : ℕ) × (i < a .out) × (pointAt 0 mode a i .mark ≡ 2)) → (r ≡ false → (i : ℕ) → i < a .out → pointAt 0 mode a i .mark ≡ 2 → ⊥) → r ≡ someBeside mode a
+unfolding someBeside
+beside-by mode a true found none = let f = found refl in sym (some-at (besideAt mode a) (a .out) (f .0) (f .1) (mark-beside mode a (f .0) (f .2)))
+beside-by mode a false found none = sym (some-none (besideAt mode a) (a .out) (λ i l. is-false (besideAt mode a i) (λ t. none refl i l (beside-mark mode a i t))))
+  where
+    is-false : (b : Bool) → (b ≡ true → ⊥) → b ≡ false
+    is-false true n = absurd (n refl)
+    is-false false n = refl
+
+-- ---- the first that applies, one check after the other
+pub skip : {c : Bool} {v w : Verdict} (says : Refusal) → c ≡ false → v ≡ w → v ≡ cond c (Refused says) w
+skip says none e = e ∙ simp none
+
+pub stop : {c : Bool} (says : Refusal) (rest : Verdict) → c ≡ true → Refused says ≡ cond c (Refused says) rest
+stop says rest some = simp some
+
+-- ---- where nothing is refused no test applies
+abbrev IsRefused : Verdict → Type 0
+IsRefused Passed = ⊥
+IsRefused (Refused why) = Unit
+
+passed : (says : Refusal) (applies : Bool) (v : Verdict) → cond applies (Refused says) v ≡ Passed → (applies ≡ false) × (v ≡ Passed)
+passed says false v e = (refl, e)
+passed says true v e = absurd (subst (λ (v : Verdict). IsRefused v) e tt)
+
+abbrev pub Clear : List Check → Type 0
+Clear [] = Unit
+Clear (c ∷ cs) = (c .applies ≡ false) × Clear cs
+
+pub all-clear : (l : List Check) → first l ≡ Passed → Clear l
+all-clear [] e = tt
+all-clear (c ∷ cs) e = let h = passed (c .says) (c .applies) (first cs) e in (h .0, all-clear cs (h .1))

@@ -1,0 +1,3 @@
+-- What a caller asks for, and which of the nine refusals it meets.
+pub mod Sizes
+pub mod Refusals

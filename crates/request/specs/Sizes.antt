@@ -1,0 +1,54 @@
+-- "Volumes are flat f64 buffers, last index fastest. Input, output and coverage have exactly their voxel count. Work has at least its needed count: 0 if prefilter is off or the order is below 2, else the input count, or in Nearest the count with 24 added to each axis."
+use Prim.Native.Nat.{ℕ, _+_, _*_, _≤_, _<_}
+use mathlib.Core.Bool.{Bool, _&&_, cond}
+use mathlib.Core.List.{List, [], _∷_}
+use lib.Dec.{ltb}
+use lib.ListN.{getD}
+use lib.Ieee.{nan}
+use Rattle.axis.specs.declared.coordinate.Axis.{Axis}
+use Rattle.axis.specs.Coordinate.{padOf, shiftAxis, zoomAxis}
+use Rattle.axis.specs.Length.{outputLength, Zooms}
+use Rattle.prefilter.specs.Volume.{countOf}
+use Rattle.request.specs.declared.Axes.{Axes}
+use Rattle.request.specs.declared.Request.{Request}
+
+-- whether the sums read filtered coefficients
+abbrev pub filters : Request → Bool
+filters r = r .prefilter && ltb 1 (r .order)
+
+abbrev pub padding : Request → ℕ
+padding r = padOf (r .mode) (r .prefilter) (r .order)
+
+-- the lengths of what the sums read
+abbrev pub sourceDims : Request → List ℕ
+sourceDims r = (getD (r .dims) 0 0 + 2 * padding r) ∷ (getD (r .dims) 1 0 + 2 * padding r) ∷ (getD (r .dims) 2 0 + 2 * padding r) ∷ []
+
+abbrev pub needed : Request → ℕ
+needed r = cond (filters r) (countOf (sourceDims r)) 0
+
+-- the output lengths of zoom; those of shift are the input's
+abbrev pub zoomDims : Request → List ℕ
+zoomDims r = outputLength (getD (r .dims) 0 0) (getD (r .factors) 0 nan) ∷ outputLength (getD (r .dims) 1 0) (getD (r .factors) 1 nan) ∷ outputLength (getD (r .dims) 2 0) (getD (r .factors) 2 nan) ∷ []
+
+-- the three axes: from here on nobody knows which entry was called
+abbrev pub shiftAxes : Request → Axes
+shiftAxes r =
+    let axis : ℕ → Axis = λ i. shiftAxis (getD (r .dims) i 0) (getD (r .factors) i nan) (padding r) in
+    record { x = axis 0; y = axis 1; z = axis 2 }
+
+abbrev pub zoomAxes : Request → Axes
+zoomAxes r =
+    let axis : ℕ → Axis = λ i. zoomAxis (getD (r .dims) i 0) (getD (zoomDims r) i 0) (padding r) in
+    record { x = axis 0; y = axis 1; z = axis 2 }
+
+-- lengths that their products can be taken of
+abbrev pub Small : List ℕ → Type 0
+Small d = (getD d 0 0 ≤ 4120) × ((getD d 1 0 ≤ 4120) × (getD d 2 0 ≤ 4120))
+
+-- lengths that refusal 3 or 5 lets pass
+abbrev pub Lengths : List ℕ → Type 0
+Lengths d = (i : ℕ) → i < 3 → (2 ≤ getD d i 0) × (getD d i 0 ≤ 4096)
+
+-- factors that refusal 4 lets pass
+abbrev pub Zoomed : Request → Type 0
+Zoomed r = (i : ℕ) → i < 3 → Zooms (getD (r .dims) i 0) (getD (r .factors) i nan)

@@ -1,0 +1,56 @@
+// The table of the last axis: the neighbours and weights of every output index, those of neighbour k
+// from place k * 4096 on.
+ghost use mathlib.Core.Path.{_≡_};
+ghost use Prim.Native.Nat.{ℕ, _+_, _*_, _<_, _≤_};
+ghost use lib.ListN.{length};
+ghost use lib.Ieee.{nan};
+ghost use Rattle.voxels.specs.Table.{Tabled, Column, Reaches};
+use axis::coordinate::Axis;
+use axis::taps::taps_at;
+use border::BorderMode;
+
+fn put_places(table: &mut [usize], column: &[usize; 6], i: usize)
+    requires { ⌜ (length (now table) ≡ 24580) × (i < 4096) ⌝ }
+    ensures { λ _. ⌜ Column 0 i (now (column .entry)) (now (table .entry)) (now (table .exit)) 6 ⌝ }
+{
+    let mut k = 0;
+    while k < 6 {
+        table[k * 4096 + i] = column[k];
+        k += 1;
+    }
+}
+
+fn put_weights(table: &mut [f64], column: &[f64; 6], i: usize)
+    requires { ⌜ (length (now table) ≡ 24580) × (i < 4096) ⌝ }
+    ensures { λ _. ⌜ Column nan i (now (column .entry)) (now (table .entry)) (now (table .exit)) 6 ⌝ }
+{
+    let mut k = 0;
+    while k < 6 {
+        table[k * 4096 + i] = column[k];
+        k += 1;
+    }
+}
+
+// The columns of all output indices.
+pub(crate) fn fill_table(
+    at: &mut [usize],
+    weight: &mut [f64],
+    a: Axis,
+    order: usize,
+    mode: BorderMode,
+)
+    requires { ⌜ Reaches order a ⌝ }
+    requires { ⌜ Tabled order mode a (now at) (now weight) 0 ⌝ }
+    ensures { λ _. ⌜ Tabled order mode a (now (at .exit)) (now (weight .exit)) (a .out) ⌝ }
+{
+    let n = a.out;
+    let mut i = 0;
+    while i < n {
+        let t = taps_at(a, i, order, mode);
+        let p = t.at;
+        let w = t.weight;
+        put_places(at, &p, i);
+        put_weights(weight, &w, i);
+        i += 1;
+    }
+}
