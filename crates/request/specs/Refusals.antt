@@ -44,7 +44,23 @@ abbrev pub first : List Check → Verdict
 first [] = Passed
 first (c ∷ cs) = cond (c .applies) (Refused (c .says)) (first cs)
 
+-- the number of what was found, 0 where no check applies
+abbrev pub numberBy : Verdict → ℕ
+numberBy Passed = 0
+numberBy (Refused why) = numberOf why
+
 -- ---- the tests
+-- "order above 5; for `spline_filter` also order 0 or 1"
+abbrev pub badOrder : ℕ → Bool
+badOrder order = ltb 5 order
+
+abbrev pub badFilterOrder : ℕ → Bool
+badFilterOrder order = ltb order 2 || ltb 5 order
+
+-- "`spline_filter1d` is given an axis number above 2"
+abbrev pub badAxisNumber : ℕ → Bool
+badAxisNumber axis = ltb 2 axis
+
 -- "an input axis is shorter than 2 or longer than 4,096"
 abbrev pub badLength : ℕ → Bool
 badLength n = ltb n 2 || ltb 4096 n
@@ -72,6 +88,9 @@ tooLarge n = ltb (2 ^ 27) n
 -- "a lent buffer has the wrong length"
 abbrev pub wrong : ℕ → ℕ → Bool
 wrong length count = not (eqb length count)
+
+abbrev pub tooShort : ℕ → ℕ → Bool
+tooShort length count = ltb length count
 
 -- "a fill or an input voxel is not finite or its size exceeds 2^100"
 abbrev pub wild : Float → Bool
@@ -105,21 +124,21 @@ valueCheck mode input = when Value (wildFill mode || someWild input)
 abbrev pub resampleChecks : Request → List Float → ℕ → ℕ → ℕ → List ℕ → Axes → List Check
 resampleChecks r input output coverage work out a =
     when Count (tooLarge (countOf (r .dims)) || tooLarge (countOf out) || tooLarge (needed r))
-    ∷ when Buffer (wrong (length input) (countOf (r .dims)) || wrong output (countOf out) || wrong coverage (countOf out) || ltb work (needed r))
+    ∷ when Buffer (wrong (length input) (countOf (r .dims)) || wrong output (countOf out) || wrong coverage (countOf out) || tooShort work (needed r))
     ∷ valueCheck (r .mode) input
     ∷ when Beside (besideAny r a)
     ∷ []
 
 abbrev pub shiftChecks : Request → List Float → ℕ → ℕ → ℕ → List Check
 shiftChecks r input output coverage work =
-    when Order (ltb 5 (r .order))
+    when Order (badOrder (r .order))
     ∷ when Length (badLengths (r .dims))
     ∷ when Factor (badFactors badShift (r .factors))
     ∷ resampleChecks r input output coverage work (r .dims) (shiftAxes r)
 
 abbrev pub zoomChecks : Request → List Float → ℕ → ℕ → ℕ → List Check
 zoomChecks r input output coverage work =
-    when Order (ltb 5 (r .order))
+    when Order (badOrder (r .order))
     ∷ when Length (badLengths (r .dims))
     ∷ when Factor (badFactors badZoom (r .factors))
     ∷ when OutputLength (badLengths (zoomDims r))
@@ -135,7 +154,7 @@ filterChecks r input output =
     ∷ []
 
 abbrev pub splineFilterChecks : Request → List Float → ℕ → List Check
-splineFilterChecks r input output = when Order (ltb (r .order) 2 || ltb 5 (r .order)) ∷ filterChecks r input output
+splineFilterChecks r input output = when Order (badFilterOrder (r .order)) ∷ filterChecks r input output
 
 abbrev pub splineFilter1dChecks : Request → ℕ → List Float → ℕ → List Check
-splineFilter1dChecks r axis input output = when Order (ltb 5 (r .order)) ∷ when AxisNumber (ltb 2 axis) ∷ filterChecks r input output
+splineFilter1dChecks r axis input output = when Order (badOrder (r .order)) ∷ when AxisNumber (badAxisNumber axis) ∷ filterChecks r input output

@@ -1,0 +1,87 @@
+-- "The counts say how many voxels bear each code and sum to the output count."
+use Prim.Native.Nat.{ℕ, zero, suc, _+_, _*_, _≤_, _<_}
+use native.Mathlib.Omega.{arith}
+use mathlib.Core.Path.{_≡_, refl, sym, subst, _∙_}
+use mathlib.Core.Bool.{Bool, true, false, _&&_}
+use mathlib.Core.List.{List, [], _∷_}
+use lib.Dec.{lit≤}
+use lib.ListN.{length, getD}
+use lib.Ieee.{Float}
+use Rattle.lists.proofs.Tabulated.{length-tabulate, getD-tabulate}
+use Rattle.axis.specs.declared.coordinate.Axis.{Axis}
+use Rattle.border.specs.declared.BorderMode.{BorderMode}
+use Rattle.voxels.specs.declared.counts.Counts.{Counts}
+use Rattle.border.specs.declared.BorderMode.the-variants.{Constant, Mirror, Nearest, Reflect, Wrap}
+use Rattle.voxels.specs.Coverage.{keptAt, codeAt, codeBy, codes, none, withCode, countsFrom, countsOf, total}
+use Rattle.voxels.specs.Voxel.{values}
+use Rattle.voxels.proofs.Counting.{total-is}
+use Rattle.request.specs.declared.Request.{Request}
+use Rattle.resample.specs.Call.{Call, numberIn, countsIn, coefficients}
+use Rattle.promises.specs.Entries.{Entry, call, axesOf}
+use Rattle.promises.specs.Marks.{bearing}
+use Rattle.promises.proofs.Succeeding.{succeeds}
+
+-- ---- the counts of a list of codes
+pub record Tallied (c : Counts) (before : Counts) (l : List ℕ) : Type 0 where
+  pub computed : c .computed ≡ before .computed + bearing 0 l
+  pub filled : c .filled ≡ before .filled + bearing 1 l
+  pub defaulted : c .defaulted ≡ before .defaulted + bearing 2 l
+
+tallied : (c : Counts) (l : List ℕ) → ((m : ℕ) → m < length l → getD l m 0 ≤ 2) → Tallied (countsFrom c l) c l
+unfolding countsFrom bearing withCode
+tallied c [] h = record { computed = omega arith; filled = omega arith; defaulted = omega arith }
+tallied c (x ∷ xs) h = one x (h 0 (omega arith)) (tallied (withCode c x) xs (λ m l. h (suc m) (omega (arith, l))))
+  where
+    one : (x : ℕ) → x ≤ 2 → Tallied (countsFrom (withCode c x) xs) (withCode c x) xs → Tallied (countsFrom (withCode c x) xs) c (x ∷ xs)
+    one zero l t = record { computed = omega (arith, t .computed); filled = omega (arith, t .filled); defaulted = omega (arith, t .defaulted) }
+    one (suc zero) l t = record { computed = omega (arith, t .computed); filled = omega (arith, t .filled); defaulted = omega (arith, t .defaulted) }
+    one (suc (suc zero)) l t = record { computed = omega (arith, t .computed); filled = omega (arith, t .filled); defaulted = omega (arith, t .defaulted) }
+    one (suc (suc (suc x))) l t = absurd (omega (arith, l))
+
+code-most : (mode : BorderMode) (b : Bool) → codeBy mode b ≤ 2
+code-most mode true = lit≤ tt
+code-most (Constant fill) false = lit≤ tt
+code-most Mirror false = lit≤ tt
+code-most Nearest false = lit≤ tt
+code-most Reflect false = lit≤ tt
+code-most Wrap false = lit≤ tt
+
+module _ (mode : BorderMode) (xa ya za : Axis) where
+  codes-length : length (codes mode xa ya za) ≡ xa .out * (ya .out * za .out)
+  unfolding codes
+  codes-length = length-tabulate (xa .out * (ya .out * za .out)) _
+
+  code-at-most : (i j k : ℕ) → codeAt mode xa ya za i j k ≤ 2
+  unfolding codeAt
+  code-at-most i j k = code-most mode (keptAt mode xa i && keptAt mode ya j && keptAt mode za k)
+
+  codes-most : (m : ℕ) → m < length (codes mode xa ya za) → getD (codes mode xa ya za) m 0 ≤ 2
+  unfolding codes
+  codes-most m l = subst (λ (c : ℕ). c ≤ 2) (sym (getD-tabulate (xa .out * (ya .out * za .out)) _ 0 m (omega (arith, l, codes-length)))) (code-at-most _ _ _)
+
+  values-length : (order : ℕ) (xs : List Float) → length (values order mode xa ya za xs) ≡ xa .out * (ya .out * za .out)
+  unfolding values
+  values-length order xs = length-tabulate (xa .out * (ya .out * za .out)) _
+
+-- ---- the promise of `shift` and `zoom`: `count` is the output's
+pub record Counted (count : ℕ) (c : Call) : Type 0 where
+  pub coverage : countsIn (c .answer) ≡ countsOf (c .coverage)
+  pub each : Tallied (countsIn (c .answer)) none (c .coverage)
+  pub sum : total (countsIn (c .answer)) ≡ count
+  pub codes : length (c .coverage) ≡ count
+  pub values : length (c .output) ≡ count
+
+pub counted : (e : Entry) (r : Request) (input output : List Float) (coverage : List ℕ) (work : List Float) → numberIn (call e r input output coverage work .answer) ≡ 0 → Counted (length output) (call e r input output coverage work)
+unfolding countsOf
+counted e r input output coverage work done =
+    let s = succeeds r input output coverage work e done in
+    let a = axesOf e r in
+    let count = s .passes .admitted .values in
+    let long = codes-length (r .mode) (a .x) (a .y) (a .z) in
+    subst (λ (c : Call). Counted (length output) c) (sym (s .writes)) (record {
+      coverage = refl;
+      each = tallied none (codes (r .mode) (a .x) (a .y) (a .z)) (codes-most (r .mode) (a .x) (a .y) (a .z));
+      sum = total-is (codes (r .mode) (a .x) (a .y) (a .z)) ∙ long ∙ sym count;
+      codes = long ∙ sym count;
+      values = values-length (r .mode) (a .x) (a .y) (a .z) (r .order) (coefficients r input) ∙ sym count;
+    })

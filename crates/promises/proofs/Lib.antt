@@ -1,0 +1,9 @@
+-- The promises.
+pub mod Identical
+pub mod Given
+pub mod Limits
+pub mod Refused
+pub mod Succeeding
+pub mod Places
+pub mod Marked
+pub mod Counted

@@ -1,0 +1,36 @@
+-- What a success writes, whichever of `shift` and `zoom` was called.
+use Prim.Native.Nat.{ℕ}
+use mathlib.Core.Path.{_≡_, refl, sym, ap, _∙_}
+use mathlib.Core.List.{List}
+use lib.ListN.{length}
+use lib.Ieee.{Float}
+use Rattle.request.specs.declared.Request.{Request}
+use Rattle.request.specs.declared.refusal.Verdict.{Verdict}
+use Rattle.request.specs.declared.refusal.Verdict.the-variants.{Passed, Refused}
+use Rattle.request.specs.Refusals.{first, numberBy}
+use Rattle.resample.specs.Call.{callBy, numberIn, shiftCall, zoomCall}
+use Rattle.resample.proofs.Admitting.{Passes, shift-passes, zoom-passes}
+use Rattle.promises.specs.Entries.{Entry, shifting, zooming, call, checks, axesOf}
+use Rattle.promises.proofs.Given.{some-number, numbered}
+
+-- a call that nothing refused
+pub record Succeeds (e : Entry) (r : Request) (input output : List Float) (coverage : List ℕ) (work : List Float) : Type 0 where
+  pub writes : call e r input output coverage work ≡ callBy Passed r (axesOf e r) input output coverage work
+  pub passes : Passes r input (length output) (length coverage) (length work) (axesOf e r)
+
+passed : (v : Verdict) → numberBy v ≡ 0 → v ≡ Passed
+passed Passed e = refl
+passed (Refused why) e = absurd (some-number why e)
+
+module _ (r : Request) (input output : List Float) (coverage : List ℕ) (work : List Float) where
+  by-verdict : (e : Entry) → numberIn (call e r input output coverage work .answer) ≡ 0 → first (checks e r input (length output) (length coverage) (length work)) ≡ Passed
+  by-verdict e q = passed (first (checks e r input (length output) (length coverage) (length work))) (sym (numbered e r input output coverage work) ∙ q)
+
+  pub succeeds : (e : Entry) → numberIn (call e r input output coverage work .answer) ≡ 0 → Succeeds e r input output coverage work
+  unfolding shiftCall zoomCall
+  succeeds shifting q =
+      let v = by-verdict shifting q in
+      record { writes = ap (λ (v : Verdict). callBy v r (axesOf shifting r) input output coverage work) v; passes = shift-passes r input (length output) (length coverage) (length work) v }
+  succeeds zooming q =
+      let v = by-verdict zooming q in
+      record { writes = ap (λ (v : Verdict). callBy v r (axesOf zooming r) input output coverage work) v; passes = zoom-passes r input (length output) (length coverage) (length work) v }

@@ -1,0 +1,17 @@
+-- "Given exactly when": refusal n of an entry, by document 01's number.
+use Prim.Native.Nat.{ℕ, _<_}
+use mathlib.Core.Path.{_≡_}
+use mathlib.Core.Bool.{Bool, true, false, cond}
+use mathlib.Core.List.{List, [], _∷_}
+use lib.Dec.{eqb}
+use Rattle.request.specs.Refusals.{Check, numberOf}
+
+-- whether refusal n's condition holds; it does not where the entry does not check it
+abbrev pub holds : List Check → ℕ → Bool
+holds [] n = false
+holds (c ∷ cs) n = cond (eqb (numberOf (c .says)) n) (c .applies) (holds cs n)
+
+-- refusal n's condition holds and no earlier one does
+pub record FirstToHold (l : List Check) (n : ℕ) : Type 0 where
+  pub this : holds l n ≡ true
+  pub before : (m : ℕ) → m < n → holds l m ≡ false

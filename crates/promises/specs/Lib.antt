@@ -1,0 +1,6 @@
+-- The words of the promises.
+pub mod Entries
+pub mod Given
+pub mod Limits
+pub mod Place
+pub mod Marks

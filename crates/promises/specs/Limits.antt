@@ -1,0 +1,56 @@
+-- "Both sides: order 5 taken, 6 refused; axis 2 and 4,096 taken, 1 and 4,097 refused; shift 1,048,575.5 taken, 1,048,576 refused; size 2^100 taken." And both sides of every other limit, as one table.
+use Prim.Native.Nat.{ℕ, _+_, _^_}
+use mathlib.Core.Bool.{Bool, true, false, not}
+use mathlib.Core.List.{List, [], _∷_}
+use lib.Ieee.{Float, nan, inf, neg, binary64, ofBits}
+use Rattle.exact.specs.Rounded.{_⊕_, _⊘_, num, half}
+use Rattle.border.specs.declared.BorderMode.the-variants.{Constant, Mirror, Nearest, Reflect, Wrap}
+use Rattle.axis.specs.Coordinate.{shiftAxis}
+use Rattle.axis.specs.Length.{outputLength}
+use Rattle.request.specs.Refusals.{badOrder, badFilterOrder, badAxisNumber, badLength, badShift, badZoom, tooLarge, wrong, tooShort, wild, wildFill, someBeside}
+
+-- what a test says, and whether it is to refuse
+pub data Side : Type 0 where
+  taken refused : Bool → Side
+
+abbrev pub right : Side → Bool
+right (taken test) = not test
+right (refused test) = test
+
+-- the least number above 0, and the next above 4,096 and above 2^100
+abbrev least : Float
+least = ofBits binary64 1
+
+abbrev past4096 : Float
+past4096 = num (2 ^ 52 + 1) ⊘ num (2 ^ 40)
+
+abbrev past100 : Float
+past100 = num (2 ^ 100 + 2 ^ 48)
+
+unfoldable pub sides : List Side
+unfolding outputLength someBeside
+sides =
+    -- 1
+    taken (badOrder 0) ∷ taken (badOrder 5) ∷ refused (badOrder 6)
+    ∷ refused (badFilterOrder 1) ∷ taken (badFilterOrder 2) ∷ taken (badFilterOrder 5) ∷ refused (badFilterOrder 6)
+    -- 2
+    ∷ taken (badAxisNumber 2) ∷ refused (badAxisNumber 3)
+    -- 3
+    ∷ refused (badLength 1) ∷ taken (badLength 2) ∷ taken (badLength 4096) ∷ refused (badLength 4097)
+    -- 4, of shift and of zoom
+    ∷ taken (badShift (num 1048575 ⊕ half)) ∷ refused (badShift (num 1048576)) ∷ taken (badShift (neg (num 1048575 ⊕ half))) ∷ refused (badShift (neg (num 1048576)))
+    ∷ refused (badShift nan) ∷ refused (badShift (inf false)) ∷ refused (badShift (inf true))
+    ∷ refused (badZoom (num 0)) ∷ refused (badZoom (neg (num 0))) ∷ taken (badZoom least) ∷ refused (badZoom (neg least)) ∷ taken (badZoom (num 4096)) ∷ refused (badZoom past4096)
+    ∷ refused (badZoom nan) ∷ refused (badZoom (inf false)) ∷ refused (badZoom (inf true))
+    -- 5
+    ∷ refused (badLength (outputLength 2 half)) ∷ taken (badLength (outputLength 3 half)) ∷ taken (badLength (outputLength 2048 (num 2))) ∷ refused (badLength (outputLength 2048 (num 4097 ⊘ num 2048)))
+    -- 6
+    ∷ taken (tooLarge (2 ^ 27)) ∷ refused (tooLarge (2 ^ 27 + 1))
+    -- 7
+    ∷ refused (wrong 7 8) ∷ taken (wrong 8 8) ∷ refused (wrong 9 8) ∷ refused (tooShort 7 8) ∷ taken (tooShort 8 8) ∷ taken (tooShort 9 8)
+    -- 8
+    ∷ taken (wild (num (2 ^ 100))) ∷ refused (wild past100) ∷ taken (wild (neg (num (2 ^ 100)))) ∷ refused (wild (neg past100))
+    ∷ refused (wild nan) ∷ refused (wild (inf false)) ∷ refused (wild (inf true)) ∷ refused (wildFill (Constant nan)) ∷ taken (wildFill Mirror) ∷ taken (wildFill Nearest) ∷ taken (wildFill Reflect) ∷ taken (wildFill Wrap)
+    -- 9
+    ∷ refused (someBeside (Constant (num 0)) (shiftAxis 4 (neg half) 0)) ∷ taken (someBeside (Constant (num 0)) (shiftAxis 4 half 0)) ∷ taken (someBeside (Constant (num 0)) (shiftAxis 4 (neg (num 1)) 0))
+    ∷ []
