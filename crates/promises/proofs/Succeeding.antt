@@ -8,15 +8,15 @@ use Rattle.request.specs.declared.Request.{Request}
 use Rattle.request.specs.declared.refusal.Verdict.{Verdict}
 use Rattle.request.specs.declared.refusal.Verdict.the-variants.{Passed, Refused}
 use Rattle.request.specs.Refusals.{first, numberBy}
-use Rattle.resample.specs.Call.{callBy, numberIn, shiftCall, zoomCall}
-use Rattle.resample.proofs.Admitting.{Passes, shift-passes, zoom-passes}
+use Rattle.resample.specs.Call.{Passes, success, callBy, numberIn, shiftCall, zoomCall}
+use Rattle.resample.proofs.Admitting.{shift-passes, zoom-passes}
 use Rattle.promises.specs.Entries.{Entry, shifting, zooming, call, checks, axesOf}
 use Rattle.promises.proofs.Given.{some-number, numbered}
 
 -- a call that nothing refused
 pub record Succeeds (e : Entry) (r : Request) (input output : List Float) (coverage : List ℕ) (work : List Float) : Type 0 where
-  pub writes : call e r input output coverage work ≡ callBy Passed r (axesOf e r) input output coverage work
-  pub passes : Passes r input (length output) (length coverage) (length work) (axesOf e r)
+  pub writes : call e r input output coverage work ≡ success r (axesOf e r) input work
+  pub passes : Passes r (axesOf e r) (length input) (length output) (length coverage) (length work)
 
 passed : (v : Verdict) → numberBy v ≡ 0 → v ≡ Passed
 passed Passed e = refl

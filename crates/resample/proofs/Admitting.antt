@@ -24,8 +24,7 @@ use Rattle.request.specs.declared.refusal.Verdict.the-variants.{Passed, Refused
 use Rattle.request.specs.Sizes.{needed, padding, zoomDims, shiftAxes, zoomAxes, Lengths, Zoomed}
 use Rattle.request.specs.Refusals.{first, wrong, badShift, badFactors, shiftChecks, zoomChecks}
 use Rattle.voxels.specs.Table.{Reaches}
-use Rattle.resample.specs.Call.{Admitted, callOf, callBy, valuesOf, codesOf, workAfter}
-use Rattle.voxels.specs.Coverage.{countsOf}
+use Rattle.resample.specs.Call.{Admitted, Passes, callOf, callBy, success}
 use Rattle.request.proofs.Refusing.{all-clear}
 use Rattle.request.proofs.Requests.{none-at, or-false, not-both, pad-most, good-lengths, good-zooms}
 
@@ -84,13 +83,7 @@ module _ (r : Request) (input : List Float) (output coverage work : ℕ) where
       let o = or-false (wrong (length input) (countOf (r .dims))) (wrong output (countOf out)) (c .0) in
       record { all = right _ _ (o .0); values = right _ _ (o .1); codes = right _ _ (c .1); room = ltb-false work (needed r) (w .1) }
 
-  -- what an entry may then do
-  pub record Passes (a : Axes) : Type 0 where
-    pub admitted : Admitted r a (length input) output
-    pub codes : coverage ≡ a .x .out * (a .y .out * a .z .out)
-    pub room : needed r ≤ work
-
-  pub shift-passes : first (shiftChecks r input output coverage work) ≡ Passed → Passes (shiftAxes r)
+  pub shift-passes : first (shiftChecks r input output coverage work) ≡ Passed → Passes r (shiftAxes r) (length input) output coverage work
   shift-passes e =
       let h = all-clear (shiftChecks r input output coverage work) e in
       let b = lent (r .dims) (h .1 .1 .1 .1 .0) in
@@ -105,7 +98,7 @@ module _ (r : Request) (input : List Float) (output coverage work : ℕ) where
         room = b .room;
       }
 
-  pub zoom-passes : first (zoomChecks r input output coverage work) ≡ Passed → Passes (zoomAxes r)
+  pub zoom-passes : first (zoomChecks r input output coverage work) ≡ Passed → Passes r (zoomAxes r) (length input) output coverage work
   zoom-passes e =
       let h = all-clear (zoomChecks r input output coverage work) e in
       let b = lent (zoomDims r) (h .1 .1 .1 .1 .1 .0) in
@@ -127,12 +120,9 @@ module _ (r : Request) (input : List Float) (output coverage work : ℕ) where
 -- ---- the call, by its verdict
 module _ (r : Request) (input output : List Float) (coverage : List ℕ) (work : List Float) {v : Verdict} where
   pub call-passed :
-      (a' a : Axes) {counts : Counts} {values : List Float} {codes : List ℕ} {after : List Float} → v ≡ Passed → a' ≡ a → counts ≡ countsOf (codesOf r a') → values ≡ valuesOf r a' input → codes ≡ codesOf r a' → after ≡ workAfter r input work →
+      (a' a : Axes) {counts : Counts} {values : List Float} {codes : List ℕ} {after : List Float} → v ≡ Passed → a' ≡ a → callOf (Done counts) values codes after ≡ success r a' input work →
       callOf (Done counts) values codes after ≡ callBy v r a input output coverage work
-  call-passed a' a q e n x c w =
-      (λ i. callOf (Done (n i)) (x i) (c i) (w i))
-      ∙ ap (λ (b : Axes). callBy Passed r b input output coverage work) e
-      ∙ ap (λ (u : Verdict). callBy u r a input output coverage work) (sym q)
+  call-passed a' a q e w = w ∙ ap (λ (b : Axes). success r b input work) e ∙ ap (λ (u : Verdict). callBy u r a input output coverage work) (sym q)
 
   pub call-refused : (a : Axes) (why : Refusal) → v ≡ Refused why → callOf (answer.Refused why) output coverage work ≡ callBy v r a input output coverage work
   call-refused a why q = ap (λ (u : Verdict). callBy u r a input output coverage work) (sym q)

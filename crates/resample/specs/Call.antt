@@ -50,8 +50,12 @@ codesOf r a = codes (r .mode) (a .x) (a .y) (a .z)
 abbrev pub workAfter : Request → List Float → List Float → List Float
 workAfter r input work = cond (filters r) (coefficients r input ++ drop (needed r) work) work
 
+-- what a success returns and leaves
+abbrev pub success : Request → Axes → List Float → List Float → Call
+success r a input work = callOf (answer.Done (countsOf (codesOf r a))) (valuesOf r a input) (codesOf r a) (workAfter r input work)
+
 abbrev pub callBy : Verdict → Request → Axes → List Float → List Float → List ℕ → List Float → Call
-callBy verdict.Passed r a input output coverage work = callOf (answer.Done (countsOf (codesOf r a))) (valuesOf r a input) (codesOf r a) (workAfter r input work)
+callBy verdict.Passed r a input output coverage work = success r a input work
 callBy (verdict.Refused why) r a input output coverage work = callOf (answer.Refused why) output coverage work
 
 unfoldable pub shiftCall : Request → List Float → List Float → List ℕ → List Float → Call
@@ -103,3 +107,9 @@ pub record Admitted (r : Request) (a : Axes) (input output : ℕ) : Type 0 where
   pub long : countOf (sourceDims r) ≡ a .x .len * (a .y .len * a .z .len)
   pub rows : a .y .len ≤ 4120
   pub row : a .z .len ≤ 4120
+
+-- and of the lengths of all four buffers
+pub record Passes (r : Request) (a : Axes) (input output coverage work : ℕ) : Type 0 where
+  pub admitted : Admitted r a input output
+  pub codes : coverage ≡ a .x .out * (a .y .out * a .z .out)
+  pub room : needed r ≤ work

@@ -1,8 +1,7 @@
 // The four entries. Each refuses, or prepares the coefficients and sweeps; no caller has checked anything.
 ghost use mathlib.Core.Path.{_≡_};
 ghost use Rattle.resample.specs.Call.{callOf, shiftCall, zoomCall, filterCallOf, splineFilterCall, splineFilter1dCall};
-use crate::write::write_codes;
-use crate::write::write_values;
+use crate::write::write;
 use prefilter::edge::copy;
 use prefilter::volume::filter_axis;
 use prefilter::volume::filter_volume;
@@ -36,11 +35,7 @@ pub fn shift(
     ensures { λ answer. ⌜ callOf answer (now (output .exit)) (now (coverage .exit)) (now (work .exit)) ≡ shiftCall r (now (input .entry)) (now (output .entry)) (now (coverage .entry)) (now (work .entry)) ⌝ }
 {
     match shift_verdict(r, input, output.len(), coverage.len(), work.len()) {
-        Verdict::Passed => {
-            let a = shift_axes(r);
-            write_values(r, a, input, output, work);
-            Answer::Done(write_codes(r, a, coverage))
-        }
+        Verdict::Passed => { Answer::Done(write(r, shift_axes(r), input, output, coverage, work)) }
         Verdict::Refused(why) => Answer::Refused(why),
     }
 }
@@ -57,8 +52,7 @@ pub fn zoom(
     match zoom_verdict(r, input, output.len(), coverage.len(), work.len()) {
         Verdict::Passed => {
             let a = zoom_axes(r, zoom_dims(r));
-            write_values(r, a, input, output, work);
-            Answer::Done(write_codes(r, a, coverage))
+            Answer::Done(write(r, a, input, output, coverage, work))
         }
         Verdict::Refused(why) => Answer::Refused(why),
     }

@@ -6,7 +6,8 @@ ghost use lib.ListN.{length};
 ghost use Rattle.prefilter.specs.Volume.{countOf};
 ghost use Rattle.request.specs.Sizes.{filters, sourceDims, needed, Lengths};
 ghost use Rattle.voxels.specs.Coverage.{countsOf};
-ghost use Rattle.resample.specs.Call.{sourceOf, coefficients, valuesOf, codesOf, workAfter, Admitted};
+ghost use Rattle.resample.specs.Call.{sourceOf, coefficients, callOf, valuesOf, codesOf, workAfter, success, Admitted, Passes};
+ghost use Rattle.resample.specs.declared.Answer.the-variants.{Done};
 use axis::coordinate::pad_of;
 use prefilter::edge::copy;
 use prefilter::edge::pad;
@@ -77,7 +78,7 @@ fn write_plain(r: Request, a: Axes, input: &[f64], output: &mut [f64])
     sweep(output, input, x, y, z, r.order, mode);
 }
 
-pub(crate) fn write_values(r: Request, a: Axes, input: &[f64], output: &mut [f64], work: &mut [f64])
+fn write_values(r: Request, a: Axes, input: &[f64], output: &mut [f64], work: &mut [f64])
     requires { ⌜ Admitted r a (length (now input)) (length (now output)) ⌝ }
     requires { ⌜ needed r ≤ length (now work) ⌝ }
     ensures { λ _. ⌜ (now (output .exit) ≡ valuesOf r a (now (input .entry))) × (now (work .exit) ≡ workAfter r (now (input .entry)) (now (work .entry))) ⌝ }
@@ -91,7 +92,7 @@ pub(crate) fn write_values(r: Request, a: Axes, input: &[f64], output: &mut [f64
 }
 
 // The codes, and their counts.
-pub(crate) fn write_codes(r: Request, a: Axes, coverage: &mut [u8]) -> Counts
+fn write_codes(r: Request, a: Axes, coverage: &mut [u8]) -> Counts
     requires { ⌜ length (now coverage) ≡ a .x .out * (a .y .out * a .z .out) ⌝ }
     requires { ⌜ (a .y .out ≤ 4096) × ((1 ≤ a .z .out) × (a .z .out ≤ 4096)) ⌝ }
     ensures { λ c. ⌜ (now (coverage .exit) ≡ codesOf r a) × (c ≡ countsOf (codesOf r a)) ⌝ }
@@ -102,4 +103,20 @@ pub(crate) fn write_codes(r: Request, a: Axes, coverage: &mut [u8]) -> Counts
     let z = a.z;
     cover(coverage, x, y, z, mode);
     count_codes(coverage)
+}
+
+// All that a success writes, and its counts.
+pub(crate) fn write(
+    r: Request,
+    a: Axes,
+    input: &[f64],
+    output: &mut [f64],
+    coverage: &mut [u8],
+    work: &mut [f64],
+) -> Counts
+    requires { ⌜ Passes r a (length (now input)) (length (now output)) (length (now coverage)) (length (now work)) ⌝ }
+    ensures { λ counts. ⌜ callOf (Done counts) (now (output .exit)) (now (coverage .exit)) (now (work .exit)) ≡ success r a (now (input .entry)) (now (work .entry)) ⌝ }
+{
+    write_values(r, a, input, output, work);
+    write_codes(r, a, coverage)
 }

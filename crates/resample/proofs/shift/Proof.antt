@@ -1,18 +1,23 @@
--- `resample::entry::shift` meets its contract.
-use Prim.Native.Nat.{_*_, _≤_}
+-- `resample::shift` meets its contract.
 use mathlib.Core.Path.{_≡_, _∙_, sym, subst}
 use lib.ListN.{length}
 use Rattle.request.specs.declared.Axes.{Axes}
-use Rattle.request.specs.Sizes.{needed, shiftAxes}
-use Rattle.resample.specs.Call.{Admitted, shiftCall}
-use Rattle.resample.proofs.Admitting.{Passes, shift-passes, call-passed, call-refused}
+use Rattle.request.specs.declared.refusal.Verdict.the-variants.{Passed}
+use Rattle.request.specs.Sizes.{shiftAxes}
+use Rattle.request.specs.Refusals.{first, shiftChecks}
+use Rattle.resample.specs.Call.{Passes, shiftCall}
+use Rattle.resample.proofs.Admitting.{shift-passes, call-passed, call-refused}
 use borrow.Author.Needs.{needs}
 use Rattle.resample.proofs.shift.Statement.{statement}
 use Rattle.resample.proofs.shift.Tie as tie
 
 -- nothing was refused
-passes : (c : tie.After-enum-told) → Passes (c .before .before .before .before .before .before .before .args .r) (c .before .before .before .before .before .before .before .args .input .now) (length (c .before .before .before .before .before .before .before .args .output .now)) (length (c .before .before .before .before .before .before .before .args .coverage .now)) (length (c .before .before .before .before .before .before .before .args .work .now)) (shiftAxes (c .before .before .before .before .before .before .before .args .r))
-passes c = shift-passes _ _ _ _ _ (sym (c .before .before .shift-verdict .ensures) ∙ c .enum-told .given .1)
+module _ (c : tie.After-enum-told) where
+  cleared : first (shiftChecks (c .before .before .before .before .before .before .before .args .r) (c .before .before .before .before .before .before .before .args .input .now) (length (c .before .before .before .before .before .before .before .args .output .now)) (length (c .before .before .before .before .before .before .before .args .coverage .now)) (length (c .before .before .before .before .before .before .before .args .work .now))) ≡ Passed
+  cleared = sym (c .before .before .shift-verdict .ensures) ∙ c .enum-told .given .1
+
+  passes : Passes (c .before .before .before .before .before .before .before .args .r) (shiftAxes (c .before .before .before .before .before .before .before .args .r)) (length (c .before .before .before .before .before .before .before .args .input .now)) (length (c .before .before .before .before .before .before .before .args .output .now)) (length (c .before .before .before .before .before .before .before .args .coverage .now)) (length (c .before .before .before .before .before .before .before .args .work .now))
+  passes = shift-passes (c .before .before .before .before .before .before .before .args .r) (c .before .before .before .before .before .before .before .args .input .now) (length (c .before .before .before .before .before .before .before .args .output .now)) (length (c .before .before .before .before .before .before .before .args .coverage .now)) (length (c .before .before .before .before .before .before .before .args .work .now)) cleared
 
 shift-verdict-requires : tie.Need-shift-verdict-requires
 shift-verdict-requires c κs = search needs
@@ -23,16 +28,10 @@ enum-told c = search needs
 shift-axes-requires : tie.Need-shift-axes-requires
 shift-axes-requires c κs = passes c .admitted .lengths
 
-write-values-requires : tie.Need-write-values-requires
-write-values-requires c κs =
-    let p = passes (c .before .before .before) in
-    let a = c .before .before .before .before .before .before .before .before .before .before .args in
-    (subst (λ (x : Axes). Admitted (a .r) x (length (a .input .now)) (length (a .output .now))) (sym (c .before .before .shift-axes .ensures)) (p .admitted), p .room)
-
-write-codes-requires : tie.Need-write-codes-requires
-write-codes-requires c κs =
-    let p = passes (c .before .before .before .before .before .before .before .before .before) in
-    subst (λ (x : Axes). (length (c .before .before .before .before .before .before .before .before .before .before .before .before .before .before .before .before .args .coverage .now) ≡ x .x .out * (x .y .out * x .z .out)) × ((x .y .out ≤ 4096) × ((1 ≤ x .z .out) × (x .z .out ≤ 4096)))) (sym (c .before .before .before .before .before .before .before .before .shift-axes .ensures)) (p .codes, (p .admitted .y .short, (p .admitted .some, p .admitted .z .short)))
+write-requires : tie.Need-write-requires
+write-requires c κs =
+    let a = c .before .before .before .before .before .before .before .before .before .before .before .args in
+    subst (λ (x : Axes). Passes (a .r) x (length (a .input .now)) (length (a .output .now)) (length (a .coverage .now)) (length (a .work .now))) (sym (c .before .before .before .shift-axes .ensures)) (passes (c .before .before .before .before))
 
 enum-known-why : tie.Need-enum-known-why
 enum-known-why c = search needs
@@ -49,11 +48,9 @@ same-length-3 c = search needs
 returns : tie.Need-returns
 unfolding shiftCall
 returns c =
-    let a = c .before .before .before .before .before .before .before .before .before .before .before .before .before .before .before .before .before .before .before .args in
-    let axes = c .before .before .before .before .before .before .before .before .before .before .before .shift-axes in
-    let wrote = c .before .before .before .before .before .before .before .before .write-values in
-    let counted = c .before .before .write-codes in
-    call-passed (a .r) (a .input .now) (a .output .now) (a .coverage .now) (a .work .now) (axes .result) (shiftAxes (a .r)) (sym (c .before .before .before .before .before .before .before .before .before .before .before .before .before .before .shift-verdict .ensures) ∙ c .before .before .before .before .before .before .before .before .before .before .before .before .enum-told .given .1) (axes .ensures) (counted .ensures .1) (wrote .ensures .0) (counted .ensures .0) (wrote .ensures .1)
+    let a = c .before .before .before .before .before .before .before .before .before .before .before .before .before .before .before .before .before .before .args in
+    let axes = c .before .before .before .before .before .before .before .before .before .before .shift-axes in
+    call-passed (a .r) (a .input .now) (a .output .now) (a .coverage .now) (a .work .now) (axes .result) (shiftAxes (a .r)) (cleared (c .before .before .before .before .before .before .before .before .before .before .before)) (axes .ensures) (c .before .before .before .before .before .before .write .ensures)
 
 returns-2 : tie.Need-returns-2
 unfolding shiftCall
@@ -68,8 +65,7 @@ shift-spec =
     shift-verdict-requires
     enum-told
     shift-axes-requires
-    write-values-requires
-    write-codes-requires
+    write-requires
     enum-known-why
     same-length
     same-length-2

@@ -1,4 +1,4 @@
--- `resample::entry::spline_filter` meets its contract.
+-- `resample::spline_filter` meets its contract.
 use Prim.Native.Nat.{_≤_}
 use mathlib.Core.Path.{_≡_, sym, ap, _∙_}
 use mathlib.Core.List.{List}

@@ -1,5 +1,5 @@
--- `resample::entry::zoom` meets its contract.
-use Prim.Native.Nat.{ℕ, _*_, _≤_}
+-- `resample::zoom` meets its contract.
+use Prim.Native.Nat.{ℕ}
 use mathlib.Core.Path.{_≡_, _∙_, sym, subst}
 use mathlib.Core.List.{List}
 use lib.ListN.{length}
@@ -7,8 +7,8 @@ use Rattle.request.specs.declared.Axes.{Axes}
 use Rattle.request.specs.declared.refusal.Verdict.the-variants.{Passed}
 use Rattle.request.specs.Sizes.{zoomDims, zoomAxes, Lengths, Zoomed}
 use Rattle.request.specs.Refusals.{first, zoomChecks}
-use Rattle.resample.specs.Call.{Admitted, zoomCall}
-use Rattle.resample.proofs.Admitting.{Passes, zoom-passes, zoom-ready, call-passed, call-refused}
+use Rattle.resample.specs.Call.{Passes, zoomCall}
+use Rattle.resample.proofs.Admitting.{zoom-passes, zoom-ready, call-passed, call-refused}
 use borrow.Author.Needs.{needs}
 use Rattle.resample.proofs.zoom.Statement.{statement}
 use Rattle.resample.proofs.zoom.Tie as tie
@@ -18,8 +18,8 @@ module _ (c : tie.After-enum-told) where
   cleared : first (zoomChecks (c .before .before .before .before .before .before .before .args .r) (c .before .before .before .before .before .before .before .args .input .now) (length (c .before .before .before .before .before .before .before .args .output .now)) (length (c .before .before .before .before .before .before .before .args .coverage .now)) (length (c .before .before .before .before .before .before .before .args .work .now))) ≡ Passed
   cleared = sym (c .before .before .zoom-verdict .ensures) ∙ c .enum-told .given .1
 
-  passes : Passes (c .before .before .before .before .before .before .before .args .r) (c .before .before .before .before .before .before .before .args .input .now) (length (c .before .before .before .before .before .before .before .args .output .now)) (length (c .before .before .before .before .before .before .before .args .coverage .now)) (length (c .before .before .before .before .before .before .before .args .work .now)) (zoomAxes (c .before .before .before .before .before .before .before .args .r))
-  passes = zoom-passes _ _ _ _ _ cleared
+  passes : Passes (c .before .before .before .before .before .before .before .args .r) (zoomAxes (c .before .before .before .before .before .before .before .args .r)) (length (c .before .before .before .before .before .before .before .args .input .now)) (length (c .before .before .before .before .before .before .before .args .output .now)) (length (c .before .before .before .before .before .before .before .args .coverage .now)) (length (c .before .before .before .before .before .before .before .args .work .now))
+  passes = zoom-passes (c .before .before .before .before .before .before .before .args .r) (c .before .before .before .before .before .before .before .args .input .now) (length (c .before .before .before .before .before .before .before .args .output .now)) (length (c .before .before .before .before .before .before .before .args .coverage .now)) (length (c .before .before .before .before .before .before .before .args .work .now)) cleared
 
   ready : Zoomed (c .before .before .before .before .before .before .before .args .r) × Lengths (zoomDims (c .before .before .before .before .before .before .before .args .r))
   ready = zoom-ready (c .before .before .before .before .before .before .before .args .r) (c .before .before .before .before .before .before .before .args .input .now) (length (c .before .before .before .before .before .before .before .args .output .now)) (length (c .before .before .before .before .before .before .before .args .coverage .now)) (length (c .before .before .before .before .before .before .before .args .work .now)) cleared
@@ -36,16 +36,10 @@ zoom-dims-requires c κs = ready c .0
 zoom-axes-requires : tie.Need-zoom-axes-requires
 zoom-axes-requires c κs = (passes (c .before) .admitted .lengths, (c .zoom-dims .ensures, subst (λ (d : List ℕ). Lengths d) (sym (c .zoom-dims .ensures)) (ready (c .before) .1)))
 
-write-values-requires : tie.Need-write-values-requires
-write-values-requires c κs =
-    let p = passes (c .before .before .before .before) in
-    let a = c .before .before .before .before .before .before .before .before .before .before .before .args in
-    (subst (λ (x : Axes). Admitted (a .r) x (length (a .input .now)) (length (a .output .now))) (sym (c .before .before .zoom-axes .ensures)) (p .admitted), p .room)
-
-write-codes-requires : tie.Need-write-codes-requires
-write-codes-requires c κs =
-    let p = passes (c .before .before .before .before .before .before .before .before .before .before) in
-    subst (λ (x : Axes). (length (c .before .before .before .before .before .before .before .before .before .before .before .before .before .before .before .before .before .args .coverage .now) ≡ x .x .out * (x .y .out * x .z .out)) × ((x .y .out ≤ 4096) × ((1 ≤ x .z .out) × (x .z .out ≤ 4096)))) (sym (c .before .before .before .before .before .before .before .before .zoom-axes .ensures)) (p .codes, (p .admitted .y .short, (p .admitted .some, p .admitted .z .short)))
+write-requires : tie.Need-write-requires
+write-requires c κs =
+    let a = c .before .before .before .before .before .before .before .before .before .before .before .before .args in
+    subst (λ (x : Axes). Passes (a .r) x (length (a .input .now)) (length (a .output .now)) (length (a .coverage .now)) (length (a .work .now))) (sym (c .before .before .before .zoom-axes .ensures)) (passes (c .before .before .before .before .before))
 
 enum-known-why : tie.Need-enum-known-why
 enum-known-why c = search needs
@@ -62,11 +56,9 @@ same-length-3 c = search needs
 returns : tie.Need-returns
 unfolding zoomCall
 returns c =
-    let a = c .before .before .before .before .before .before .before .before .before .before .before .before .before .before .before .before .before .before .before .before .args in
-    let axes = c .before .before .before .before .before .before .before .before .before .before .before .zoom-axes in
-    let wrote = c .before .before .before .before .before .before .before .before .write-values in
-    let counted = c .before .before .write-codes in
-    call-passed (a .r) (a .input .now) (a .output .now) (a .coverage .now) (a .work .now) (axes .result) (zoomAxes (a .r)) (cleared (c .before .before .before .before .before .before .before .before .before .before .before .before .before)) (axes .ensures) (counted .ensures .1) (wrote .ensures .0) (counted .ensures .0) (wrote .ensures .1)
+    let a = c .before .before .before .before .before .before .before .before .before .before .before .before .before .before .before .before .before .before .before .args in
+    let axes = c .before .before .before .before .before .before .before .before .before .before .zoom-axes in
+    call-passed (a .r) (a .input .now) (a .output .now) (a .coverage .now) (a .work .now) (axes .result) (zoomAxes (a .r)) (cleared (c .before .before .before .before .before .before .before .before .before .before .before .before)) (axes .ensures) (c .before .before .before .before .before .before .write .ensures)
 
 returns-2 : tie.Need-returns-2
 unfolding zoomCall
@@ -82,8 +74,7 @@ zoom-spec =
     enum-told
     zoom-dims-requires
     zoom-axes-requires
-    write-values-requires
-    write-codes-requires
+    write-requires
     enum-known-why
     same-length
     same-length-2

@@ -1,4 +1,4 @@
--- `prefilter::line::anticausal_pass` meets its contract, by the laws of one line.
+-- `lane::line::anticausal_pass` meets its contract, by the laws of one line.
 use Prim.Native.Nat.{_≤_, _<_, _+_, _-_}
 use native.Mathlib.Omega.{arith}
 use mathlib.Core.List.{List}

@@ -1,4 +1,4 @@
--- `prefilter::line::causal_pass` meets its contract, by the laws of one line.
+-- `lane::line::causal_pass` meets its contract, by the laws of one line.
 use native.Mathlib.Omega.{arith}
 use mathlib.Core.List.{List}
 use lib.ListN.{length, take, set}

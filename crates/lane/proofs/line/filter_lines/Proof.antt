@@ -1,4 +1,4 @@
--- `prefilter::line::filter_lines` meets its contract: an array that is lent as a slice has its length.
+-- `lane::line::filter_lines` meets its contract: an array that is lent as a slice has its length.
 use native.Mathlib.Omega.{arith}
 use borrow.Author.Needs.{needs}
 use Rattle.lane.proofs.line.filter_lines.Statement.{statement}

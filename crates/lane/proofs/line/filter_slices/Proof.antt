@@ -1,4 +1,4 @@
--- `prefilter::line::filter_slices` meets its contract.
+-- `lane::line::filter_slices` meets its contract.
 use Prim.Native.Nat.{_≤_}
 use native.Mathlib.Omega.{arith}
 use mathlib.Core.List.{List}

@@ -1,4 +1,4 @@
--- `prefilter::line::init_anticausal_coefficient` meets its contract.
+-- `lane::line::init_anticausal_coefficient` meets its contract.
 use lib.Ieee.{ofBits, ofInt}
 use Rattle.lane.proofs.Starts.{anticausal-reflect, anticausal-mirror}
 use native.Mathlib.Omega.{arith}

@@ -1,4 +1,4 @@
--- `prefilter::line::init_causal_coefficient` meets its contract.
+-- `lane::line::init_causal_coefficient` meets its contract.
 use Rattle.lane.specs.Lane.{initCausal}
 use borrow.Author.Needs.{needs}
 use Rattle.lane.proofs.line.init_causal_coefficient.Statement.{statement}

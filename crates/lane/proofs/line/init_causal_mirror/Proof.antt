@@ -1,4 +1,4 @@
--- `prefilter::line::init_causal_mirror` meets its contract.
+-- `lane::line::init_causal_mirror` meets its contract.
 use lib.Ieee.{ofBits, ofInt}
 use Rattle.lane.proofs.Starts.{mirror-near, mirror-whole}
 use native.Mathlib.Omega.{arith}

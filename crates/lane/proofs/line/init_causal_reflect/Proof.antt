@@ -1,4 +1,4 @@
--- `prefilter::line::init_causal_reflect` meets its contract.
+-- `lane::line::init_causal_reflect` meets its contract.
 use lib.Ieee.{ofBits, ofInt}
 use Rattle.lane.proofs.Starts.{reflect-whole}
 use native.Mathlib.Omega.{arith}

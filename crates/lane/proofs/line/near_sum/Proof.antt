@@ -1,4 +1,4 @@
--- `prefilter::line::near_sum` meets its contract.
+-- `lane::line::near_sum` meets its contract.
 use native.Mathlib.Omega.{arith}
 use Prim.Native.Nat.{_≤_, _-_}
 use mathlib.Core.Path.{_≡_, refl}

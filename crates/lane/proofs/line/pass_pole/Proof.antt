@@ -1,4 +1,4 @@
--- `prefilter::line::pass_pole` meets its contract.
+-- `lane::line::pass_pole` meets its contract.
 use native.Mathlib.Omega.{arith}
 use Rattle.lane.proofs.Filters.{pole-steps}
 use borrow.Author.Needs.{needs}

@@ -1,4 +1,4 @@
--- `prefilter::line::reflect_sum` meets its contract.
+-- `lane::line::reflect_sum` meets its contract.
 use native.Mathlib.Omega.{arith}
 use Prim.Native.Nat.{_≤_, _-_}
 use mathlib.Core.Path.{_≡_, refl}

@@ -1,4 +1,4 @@
--- `prefilter::line::scale` meets its contract.
+-- `lane::line::scale` meets its contract.
 use native.Mathlib.Omega.{arith}
 use Prim.Native.Nat.{_≤_, _-_}
 use mathlib.Core.Path.{_≡_}

@@ -1,4 +1,4 @@
--- `prefilter::line::start_anticausal` meets its contract.
+-- `lane::line::start_anticausal` meets its contract.
 use Prim.Native.Nat.{_-_}
 use mathlib.Core.Path.{ap, _∙_}
 use lib.ListN.{take, set}

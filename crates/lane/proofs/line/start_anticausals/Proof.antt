@@ -1,4 +1,4 @@
--- `prefilter::line::start_anticausals` meets its contract.
+-- `lane::line::start_anticausals` meets its contract.
 use borrow.Author.Needs.{needs}
 use Rattle.lane.proofs.line.start_anticausals.Statement.{statement}
 use Rattle.lane.proofs.line.start_anticausals.Tie as tie

@@ -1,4 +1,4 @@
--- `prefilter::line::start_causal` meets its contract.
+-- `lane::line::start_causal` meets its contract.
 use mathlib.Core.Path.{ap, _∙_}
 use lib.ListN.{take, set}
 use lib.Seq.{take-set-lt}

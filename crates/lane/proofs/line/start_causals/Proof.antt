@@ -1,4 +1,4 @@
--- `prefilter::line::start_causals` meets its contract.
+-- `lane::line::start_causals` meets its contract.
 use borrow.Author.Needs.{needs}
 use Rattle.lane.proofs.line.start_causals.Statement.{statement}
 use Rattle.lane.proofs.line.start_causals.Tie as tie

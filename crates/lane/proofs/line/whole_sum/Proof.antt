@@ -1,4 +1,4 @@
--- `prefilter::line::whole_sum` meets its contract.
+-- `lane::line::whole_sum` meets its contract.
 use native.Mathlib.Omega.{arith}
 use lib.Ieee.{Float, ofBits, ofInt}
 use Rattle.exact.specs.Rounded.{_⊗_, _⊘_, num}

@@ -1,4 +1,4 @@
--- `prefilter::poles::filter_gain` meets its contract.
+-- `lane::poles::filter_gain` meets its contract.
 use mathlib.Core.Path.{ap, ap₂, _∙_}
 use lib.Ieee.{Float, ofBits, ofInt}
 use Rattle.exact.specs.Rounded.{_⊗_, num}

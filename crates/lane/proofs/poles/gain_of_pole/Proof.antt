@@ -1,4 +1,4 @@
--- `prefilter::poles::gain_of_pole` meets its contract.
+-- `lane::poles::gain_of_pole` meets its contract.
 use mathlib.Core.Path.{refl}
 use lib.Ieee.{ofBits, ofInt}
 use Rattle.lane.proofs.poles.gain_of_pole.Statement.{statement}

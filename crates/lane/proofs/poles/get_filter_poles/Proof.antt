@@ -1,4 +1,4 @@
--- `prefilter::poles::get_filter_poles` meets its contract: each arm has the bits of the table.
+-- `lane::poles::get_filter_poles` meets its contract: each arm has the bits of the table.
 use Prim.Native.Nat.{ℕ, _≤_}
 use mathlib.Core.Path.{_≡_, refl}
 use mathlib.Core.Logic.{inl, inr}

@@ -1,4 +1,4 @@
--- `prefilter::poles::powi` meets its contract: what is left of the squarings does not change from turn to turn.
+-- `lane::poles::powi` meets its contract: what is left of the squarings does not change from turn to turn.
 use mathlib.Core.Path.{_≡_, refl, ap, _∙_}
 use mathlib.Core.Logic.{⊎-elim}
 use mathlib.Core.Bool.{cond}

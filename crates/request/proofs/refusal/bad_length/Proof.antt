@@ -1,4 +1,4 @@
--- `resample::refusal::bad_length` meets its contract.
+-- `request::refusal::bad_length` meets its contract.
 use borrow.Author.Tests.{lt-ltb, le-ltb}
 use Rattle.request.proofs.refusal.bad_length.Statement.{statement}
 use Rattle.request.proofs.refusal.bad_length.Tie as tie

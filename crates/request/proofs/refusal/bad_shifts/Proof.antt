@@ -1,4 +1,4 @@
--- `resample::refusal::bad_shifts` meets its contract.
+-- `request::refusal::bad_shifts` meets its contract.
 use Prim.Native.Nat.{ℕ}
 use mathlib.Core.Path.{sym, _∙_}
 use lib.ListN.{getD}

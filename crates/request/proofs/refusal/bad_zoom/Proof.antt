@@ -1,4 +1,4 @@
--- `resample::refusal::bad_zoom` meets its contract.
+-- `request::refusal::bad_zoom` meets its contract.
 use lib.Ieee.{ofBits, ofInt}
 use Rattle.request.proofs.Refusing.{between, not-above, not-below}
 use Rattle.request.proofs.refusal.bad_zoom.Statement.{statement}

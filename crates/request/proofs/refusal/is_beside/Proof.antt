@@ -1,4 +1,4 @@
--- `resample::refusal::is_beside` meets its contract.
+-- `request::refusal::is_beside` meets its contract.
 use Rattle.request.proofs.Refusing.{beside-by}
 use borrow.Author.Needs.{needs}
 use Rattle.request.proofs.refusal.is_beside.Statement.{statement}

@@ -1,4 +1,4 @@
--- `resample::refusal::is_wild` meets its contract.
+-- `request::refusal::is_wild` meets its contract.
 use lib.Ieee.{ofBits, ofInt}
 use Rattle.request.proofs.Refusing.{between, not-above, not-below}
 use Rattle.request.proofs.refusal.is_wild.Statement.{statement}

@@ -1,4 +1,4 @@
--- `resample::refusal::some_wild` meets its contract: no voxel passed so far is wild.
+-- `request::refusal::some_wild` meets its contract: no voxel passed so far is wild.
 use Prim.Native.Nat.{ℕ, _+_, _-_, _≤_, _<_}
 use mathlib.Core.Path.{_≡_, sym, _∙_}
 use mathlib.Core.Bool.{false}

@@ -1,4 +1,4 @@
--- `resample::refusal::wild_fill` meets its contract.
+-- `request::refusal::wild_fill` meets its contract.
 use mathlib.Core.Path.{sym, ap, _∙_}
 use Rattle.border.specs.declared.BorderMode.{BorderMode}
 use Rattle.request.specs.Refusals.{wildFill}

@@ -1,4 +1,4 @@
--- `resample::request::count_of` meets its contract.
+-- `request::sizes::count_of` meets its contract.
 use native.Mathlib.Omega.{arith}
 use borrow.Author.Needs.{needs}
 use Rattle.request.proofs.Requests.{area-most, count-most}

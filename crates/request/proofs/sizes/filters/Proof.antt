@@ -1,4 +1,4 @@
--- `resample::request::filters` meets its contract.
+-- `request::sizes::filters` meets its contract.
 use borrow.Author.Needs.{needs}
 use Rattle.request.proofs.sizes.filters.Statement.{statement}
 use Rattle.request.proofs.sizes.filters.Tie as tie

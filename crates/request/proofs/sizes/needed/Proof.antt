@@ -1,4 +1,4 @@
--- `resample::request::needed` meets its contract.
+-- `request::sizes::needed` meets its contract.
 use Prim.Native.Nat.{ℕ}
 use mathlib.Core.List.{List}
 use mathlib.Core.Path.{_∙_, sym, ap, subst}

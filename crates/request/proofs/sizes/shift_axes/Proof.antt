@@ -1,4 +1,4 @@
--- `resample::request::shift_axes` meets its contract.
+-- `request::sizes::shift_axes` meets its contract.
 use lib.Dec.{lit≤}
 use borrow.Author.Needs.{needs}
 use Rattle.request.proofs.Requests.{pad-most}

@@ -1,4 +1,4 @@
--- `resample::request::source_dims` meets its contract.
+-- `request::sizes::source_dims` meets its contract.
 use Prim.Native.Nat.{_≤_}
 use native.Mathlib.Omega.{arith}
 use mathlib.Core.Path.{refl}

@@ -1,4 +1,4 @@
--- `resample::request::zoom_axes` meets its contract.
+-- `request::sizes::zoom_axes` meets its contract.
 use native.Mathlib.Omega.{arith}
 use lib.Dec.{lit≤}
 use borrow.Author.Needs.{needs}

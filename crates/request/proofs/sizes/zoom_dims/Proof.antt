@@ -1,4 +1,4 @@
--- `resample::request::zoom_dims` meets its contract.
+-- `request::sizes::zoom_dims` meets its contract.
 use lib.Dec.{lit≤}
 use borrow.Author.Needs.{needs}
 use Rattle.request.proofs.sizes.zoom_dims.Statement.{statement}

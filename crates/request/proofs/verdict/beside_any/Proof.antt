@@ -1,4 +1,4 @@
--- `resample::verdict::beside_any` meets its contract.
+-- `request::verdict::beside_any` meets its contract.
 use mathlib.Core.Path.{sym, _∙_}
 use borrow.Author.Tests.{eq-eqb, ne-eqb}
 use borrow.Author.Needs.{needs}

@@ -1,4 +1,4 @@
--- `resample::verdict::filter_verdict` meets its contract.
+-- `request::verdict::filter_verdict` meets its contract.
 use Prim.Native.Nat.{ℕ}
 use mathlib.Core.Path.{_≡_, sym, ap, _∙_}
 use mathlib.Core.Bool.{false, _||_}

@@ -1,4 +1,4 @@
--- `resample::verdict::resample_verdict` meets its contract.
+-- `request::verdict::resample_verdict` meets its contract.
 use mathlib.Core.Path.{_≡_, refl, sym, _∙_}
 use mathlib.Core.Bool.{false, _||_}
 use mathlib.Core.List.{[], _∷_}

@@ -1,4 +1,4 @@
--- `resample::verdict::shift_verdict` meets its contract: lengths that refusal 3 lets pass are what the rest asks for.
+-- `request::verdict::shift_verdict` meets its contract: lengths that refusal 3 lets pass are what the rest asks for.
 use mathlib.Core.Path.{_≡_, sym, _∙_}
 use mathlib.Core.Bool.{false}
 use lib.Dec.{ltb}

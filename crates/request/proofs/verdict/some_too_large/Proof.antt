@@ -1,4 +1,4 @@
--- `resample::verdict::some_too_large` meets its contract.
+-- `request::verdict::some_too_large` meets its contract.
 use mathlib.Core.Path.{sym, _∙_}
 use borrow.Author.Needs.{needs}
 use Rattle.request.proofs.verdict.some_too_large.Statement.{statement}

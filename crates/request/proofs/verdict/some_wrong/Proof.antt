@@ -1,4 +1,4 @@
--- `resample::verdict::some_wrong` meets its contract.
+-- `request::verdict::some_wrong` meets its contract.
 use borrow.Author.Tests.{eq-eqb, ne-eqb}
 use Rattle.request.proofs.verdict.some_wrong.Statement.{statement}
 use Rattle.request.proofs.verdict.some_wrong.Tie as tie

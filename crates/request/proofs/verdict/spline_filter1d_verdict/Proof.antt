@@ -1,4 +1,4 @@
--- `resample::verdict::spline_filter1d_verdict` meets its contract.
+-- `request::verdict::spline_filter1d_verdict` meets its contract.
 use mathlib.Core.Path.{_∙_}
 use borrow.Author.Tests.{lt-ltb, le-ltb}
 use borrow.Author.Needs.{needs}

@@ -1,4 +1,4 @@
--- `resample::verdict::wild_any` meets its contract.
+-- `request::verdict::wild_any` meets its contract.
 use mathlib.Core.Path.{sym, _∙_}
 use borrow.Author.Needs.{needs}
 use Rattle.request.proofs.verdict.wild_any.Statement.{statement}

@@ -1,4 +1,4 @@
--- `resample::verdict::zoom_verdict` meets its contract: what refusals 3 to 5 let pass is what the rest asks for.
+-- `request::verdict::zoom_verdict` meets its contract: what refusals 3 to 5 let pass is what the rest asks for.
 use mathlib.Core.Path.{_≡_, sym, ap, _∙_}
 use mathlib.Core.Bool.{false}
 use lib.Dec.{ltb}

@@ -1,4 +1,4 @@
--- `resample::entry::prepare` meets its contract.
+-- `resample::write::prepare` meets its contract.
 use mathlib.Core.Path.{_∙_}
 use Rattle.resample.proofs.Preparing.{source-sized, filters-from-2, filtered}
 use borrow.Author.Needs.{needs}

@@ -1,4 +1,4 @@
--- `resample::entry::take_source` meets its contract.
+-- `resample::write::take_source` meets its contract.
 use mathlib.Core.Path.{_≡_, _∙_, sym}
 use native.Mathlib.Omega.{arith}
 use Rattle.prefilter.specs.Volume.{Sized}

@@ -1,4 +1,4 @@
--- `resample::entry::write_codes` meets its contract.
+-- `resample::write::write_codes` meets its contract.
 use Prim.Native.Nat.{ℕ}
 use mathlib.Core.Path.{_∙_, ap}
 use mathlib.Core.List.{List}

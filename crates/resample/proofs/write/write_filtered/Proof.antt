@@ -1,4 +1,4 @@
--- `resample::entry::write_filtered` meets its contract.
+-- `resample::write::write_filtered` meets its contract.
 use mathlib.Core.Path.{_∙_, ap}
 use mathlib.Core.List.{List}
 use lib.Ieee.{Float}

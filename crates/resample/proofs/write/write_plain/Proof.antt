@@ -1,4 +1,4 @@
--- `resample::entry::write_plain` meets its contract.
+-- `resample::write::write_plain` meets its contract.
 use mathlib.Core.Path.{_∙_, sym, ap}
 use mathlib.Core.List.{List}
 use lib.Ieee.{Float}

@@ -1,4 +1,4 @@
--- `resample::entry::write_values` meets its contract.
+-- `resample::write::write_values` meets its contract.
 use Prim.Native.Nat.{ℕ, _-_}
 use mathlib.Core.Path.{_≡_, _∙_, sym}
 use native.Mathlib.Omega.{arith}

@@ -1,4 +1,4 @@
--- `resample::counts::count_codes` meets its contract: the counts so far are those of the codes passed.
+-- `voxels::counts::count_codes` meets its contract: the counts so far are those of the codes passed.
 use Prim.Native.Nat.{_+_, _-_, _≤_}
 use mathlib.Core.Path.{_≡_, refl, sym, ap, _∙_}
 use native.Mathlib.Omega.{arith}

@@ -1,4 +1,4 @@
--- `resample::cover::cover` meets its contract: flags of the last axis, and the planes by them.
+-- `voxels::cover::cover` meets its contract: flags of the last axis, and the planes by them.
 use mathlib.Core.Path.{_∙_}
 use Rattle.voxels.proofs.Covering.{by-flags}
 use borrow.Author.Needs.{needs}

@@ -1,4 +1,4 @@
--- `resample::cover::cover_plane` meets its contract: the rows so far are written.
+-- `voxels::cover::cover_plane` meets its contract: the rows so far are written.
 use Prim.Native.Nat.{ℕ, _+_, _*_, _-_, _≤_, _<_}
 use mathlib.Core.Path.{_≡_, _∙_, sym, ap, subst}
 use mathlib.Core.Bool.{Bool, false, _&&_}

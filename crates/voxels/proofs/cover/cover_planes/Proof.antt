@@ -1,4 +1,4 @@
--- `resample::cover::cover_planes` meets its contract: the planes so far are written.
+-- `voxels::cover::cover_planes` meets its contract: the planes so far are written.
 use Prim.Native.Nat.{ℕ, _+_, _*_, _-_, _^_, _≤_, _<_}
 use mathlib.Core.Path.{_≡_, _∙_, sym, ap, subst}
 use native.Mathlib.Nat.{mul-le-mul}

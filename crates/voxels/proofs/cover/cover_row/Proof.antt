@@ -1,4 +1,4 @@
--- `resample::cover::cover_row` meets its contract: the codes so far are those of the places passed.
+-- `voxels::cover::cover_row` meets its contract: the codes so far are those of the places passed.
 use Prim.Native.Nat.{ℕ, _+_, _-_, _≤_}
 use mathlib.Core.Path.{_≡_, _∙_, ap}
 use mathlib.Core.Bool.{false, _&&_, cond}

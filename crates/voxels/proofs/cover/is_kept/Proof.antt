@@ -1,4 +1,4 @@
--- `resample::cover::is_kept` meets its contract.
+-- `voxels::cover::is_kept` meets its contract.
 use mathlib.Core.Path.{ap}
 use lib.Ieee.{Float, ofBits, ofInt}
 use Rattle.axis.specs.Coordinate.{kept}

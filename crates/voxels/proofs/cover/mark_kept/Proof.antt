@@ -1,4 +1,4 @@
--- `resample::cover::mark_kept` meets its contract: the flags so far are those of the indices passed.
+-- `voxels::cover::mark_kept` meets its contract: the flags so far are those of the indices passed.
 use Prim.Native.Nat.{_+_, _-_, _≤_}
 use mathlib.Core.Path.{_≡_}
 use mathlib.Core.Bool.{false}

@@ -1,4 +1,4 @@
--- `resample::sum::add_x` meets its contract. The loop's invariant: each lane has the sum of the first k planes.
+-- `voxels::sum::add_x` meets its contract. The loop's invariant: each lane has the sum of the first k planes.
 use Prim.Native.Nat.{ℕ, _-_, _≤_}
 use mathlib.Core.Path.{_≡_, refl}
 use native.Mathlib.Omega.{arith}

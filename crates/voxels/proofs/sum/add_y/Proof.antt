@@ -1,4 +1,4 @@
--- `resample::sum::add_y` meets its contract. The loop's invariant: each lane has the sums of the first k rows.
+-- `voxels::sum::add_y` meets its contract. The loop's invariant: each lane has the sums of the first k rows.
 use Prim.Native.Nat.{ℕ, _+_, _*_, _-_, _≤_, _<_}
 use mathlib.Core.Path.{_≡_, refl}
 use native.Mathlib.Omega.{arith}

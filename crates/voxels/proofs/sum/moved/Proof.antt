@@ -1,4 +1,4 @@
--- `resample::sum::moved` meets its contract: each sum is below `end`, so that it fits.
+-- `voxels::sum::moved` meets its contract: each sum is below `end`, so that it fits.
 use mathlib.Core.Path.{refl}
 use native.Mathlib.Omega.{arith}
 use Rattle.voxels.proofs.Sums.{in-each}

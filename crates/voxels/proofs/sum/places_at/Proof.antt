@@ -1,4 +1,4 @@
--- `resample::sum::places_at` meets its contract.
+-- `voxels::sum::places_at` meets its contract.
 use mathlib.Core.Path.{refl}
 use borrow.Author.Needs.{needs}
 use Rattle.voxels.proofs.Sums.{in-each}

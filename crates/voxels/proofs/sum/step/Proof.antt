@@ -1,4 +1,4 @@
--- `resample::sum::step` meets its contract: one product more in each lane.
+-- `voxels::sum::step` meets its contract: one product more in each lane.
 use mathlib.Core.Path.{refl}
 use native.Mathlib.Omega.{arith}
 use Rattle.voxels.proofs.Sums.{in-each}

@@ -1,4 +1,4 @@
--- `resample::sum::sum_four` meets its contract. The loop's invariant: each lane has the sums of the first k neighbours on the last axis, from 0.0 on.
+-- `voxels::sum::sum_four` meets its contract. The loop's invariant: each lane has the sums of the first k neighbours on the last axis, from 0.0 on.
 use Prim.Native.Nat.{ℕ, _+_, _-_, _≤_}
 use mathlib.Core.Path.{_≡_, refl}
 use native.Mathlib.Omega.{arith}

@@ -1,4 +1,4 @@
--- `resample::sum::times` meets its contract.
+-- `voxels::sum::times` meets its contract.
 use mathlib.Core.Path.{refl}
 use Rattle.voxels.proofs.Sums.{in-each}
 use Rattle.voxels.proofs.sum.times.Statement.{statement}

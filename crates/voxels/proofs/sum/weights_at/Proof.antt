@@ -1,4 +1,4 @@
--- `resample::sum::weights_at` meets its contract.
+-- `voxels::sum::weights_at` meets its contract.
 use mathlib.Core.Path.{refl}
 use borrow.Author.Needs.{needs}
 use Rattle.voxels.proofs.Sums.{in-each}

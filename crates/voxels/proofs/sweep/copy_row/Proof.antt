@@ -1,4 +1,4 @@
--- `resample::sweep::copy_row` meets its contract: the places so far are copied.
+-- `voxels::sweep::copy_row` meets its contract: the places so far are copied.
 use Prim.Native.Nat.{ℕ, _+_, _-_, _≤_}
 use mathlib.Core.Path.{_≡_}
 use mathlib.Core.Bool.{false, cond}

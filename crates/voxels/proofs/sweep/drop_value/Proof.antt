@@ -1,4 +1,4 @@
--- `resample::sweep::drop_value` meets its contract.
+-- `voxels::sweep::drop_value` meets its contract.
 use mathlib.Core.Path.{sym, ap}
 use lib.Ieee.{ofBits, ofInt}
 use Rattle.border.specs.declared.BorderMode.{BorderMode}

@@ -1,4 +1,4 @@
--- `resample::sweep::fill_row` meets its contract: the places so far are filled.
+-- `voxels::sweep::fill_row` meets its contract: the places so far are filled.
 use Prim.Native.Nat.{ℕ, _-_, _≤_}
 use mathlib.Core.Path.{_≡_}
 use native.Mathlib.Omega.{arith}

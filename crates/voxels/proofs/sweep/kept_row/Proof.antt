@@ -1,4 +1,4 @@
--- `resample::sweep::kept_row` meets its contract: at order 0 the row of the one neighbour is copied, else the sums are taken.
+-- `voxels::sweep::kept_row` meets its contract: at order 0 the row of the one neighbour is copied, else the sums are taken.
 use Prim.Native.Nat.{ℕ, _+_, _*_, _-_, _<_}
 use mathlib.Core.Path.{_≡_, _∙_, ap, sym, subst}
 use mathlib.Core.Bool.{false, cond}

@@ -1,4 +1,4 @@
--- `resample::sweep::put` meets its contract: past the end there is nothing to set.
+-- `voxels::sweep::put` meets its contract: past the end there is nothing to set.
 use mathlib.Core.Path.{sym, ap}
 use lib.ListN.{set}
 use lib.Ieee.{Float}

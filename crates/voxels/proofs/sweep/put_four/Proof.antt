@@ -1,4 +1,4 @@
--- `resample::sweep::put_four` meets its contract.
+-- `voxels::sweep::put_four` meets its contract.
 use Prim.Native.Nat.{_+_}
 use mathlib.Core.Path.{_∙_, ap}
 use mathlib.Core.List.{List}

@@ -1,4 +1,4 @@
--- `resample::sweep::sum_row` meets its contract: the blocks so far are written.
+-- `voxels::sweep::sum_row` meets its contract: the blocks so far are written.
 use Prim.Native.Nat.{ℕ, _+_, _-_, _≤_}
 use mathlib.Core.Path.{_≡_, _∙_, refl, subst, sym}
 use mathlib.Core.Bool.{false, cond}

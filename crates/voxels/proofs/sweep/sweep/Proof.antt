@@ -1,4 +1,4 @@
--- `resample::sweep::sweep` meets its contract: the flags and the table of the last axis, and the planes by them.
+-- `voxels::sweep::sweep` meets its contract: the flags and the table of the last axis, and the planes by them.
 use mathlib.Core.Path.{_∙_}
 use native.Mathlib.Omega.{arith}
 use Rattle.voxels.proofs.Tables.{table-start}

@@ -1,4 +1,4 @@
--- `resample::sweep::value_plane` meets its contract: the rows so far are written.
+-- `voxels::sweep::value_plane` meets its contract: the rows so far are written.
 use Prim.Native.Nat.{ℕ, _+_, _*_, _-_, _≤_, _<_}
 use mathlib.Core.Path.{_≡_, _∙_, sym, ap, subst}
 use mathlib.Core.Bool.{Bool, _&&_}

@@ -1,4 +1,4 @@
--- `resample::sweep::value_planes` meets its contract: the planes so far are written.
+-- `voxels::sweep::value_planes` meets its contract: the planes so far are written.
 use Prim.Native.Nat.{ℕ, _+_, _*_, _-_, _≤_, _<_}
 use mathlib.Core.Path.{_≡_, _∙_, refl, sym, ap, subst}
 use native.Mathlib.Nat.{mul-le-mul}

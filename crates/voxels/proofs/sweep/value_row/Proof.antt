@@ -1,4 +1,4 @@
--- `resample::sweep::value_row` meets its contract.
+-- `voxels::sweep::value_row` meets its contract.
 use mathlib.Core.Path.{_∙_}
 use mathlib.Core.Bool.{true, false}
 use lib.ListN.{length}

@@ -1,4 +1,4 @@
--- `resample::table::put_places` meets its contract: the first k places of the column are set.
+-- `voxels::table::put_places` meets its contract: the first k places of the column are set.
 use Prim.Native.Nat.{_+_, _-_, _≤_}
 use mathlib.Core.Path.{_≡_, _∙_}
 use native.Mathlib.Omega.{arith}
