@@ -4,3 +4,4 @@ pub mod Given
 pub mod Limits
 pub mod Place
 pub mod Marks
+pub mod Moves
