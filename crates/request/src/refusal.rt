@@ -23,7 +23,7 @@ pub enum Verdict {
     Refused(Refusal),
 }
 
-fn bad_length(n: usize) -> bool
+pub fn bad_length(n: usize) -> bool
     ensures { λ r. ⌜ r ≡ badLength n ⌝ }
 {
     if n < 2 {
@@ -32,7 +32,7 @@ fn bad_length(n: usize) -> bool
     n > 4096
 }
 
-pub(crate) fn bad_lengths(d: [usize; 3]) -> bool
+pub fn bad_lengths(d: [usize; 3]) -> bool
     ensures { λ r. ⌜ r ≡ badLengths d ⌝ }
 {
     if bad_length(d[0]) {
@@ -67,7 +67,7 @@ pub(crate) fn bad_shifts(f: [f64; 3]) -> bool
     bad_shift(f[2])
 }
 
-fn bad_zoom(f: f64) -> bool
+pub fn bad_zoom(f: f64) -> bool
     ensures { λ r. ⌜ r ≡ badZoom f ⌝ }
 {
     if f > 0.0 {

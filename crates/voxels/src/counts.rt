@@ -11,7 +11,7 @@ pub struct Counts {
 }
 
 impl Counts {
-    pub(crate) fn none() -> Counts
+    pub fn none() -> Counts
         ensures { λ r. ⌜ r ≡ none ⌝ }
     {
         Counts {

@@ -1,0 +1,60 @@
+-- The door's definitions, by the ways that the code goes.
+use Prim.Native.Nat.{ℕ}
+use mathlib.Core.Path.{_≡_, refl, sym, ap, _∙_}
+use mathlib.Core.Bool.{true, false}
+use mathlib.Core.List.{List, [], _++_}
+use lib.ListN.{length}
+use lib.Ieee.{Float}
+use borrow.Author.Tests.{eq-eqb, ne-eqb}
+use Rattle.request.specs.declared.Request.{Request}
+use Rattle.request.specs.declared.refusal.Verdict.{Verdict}
+use Rattle.resample.specs.declared.Answer.{Answer}
+use Rattle.resample.specs.declared.Answer.the-variants as answer
+use Rattle.resample.specs.Call.{Call, FilterCall, callOf, numberIn, countsIn, filterCallOf}
+use Rattle.request.specs.Refusals.{numberBy}
+use Rattle.vurelika.specs.Door.{isMode, places, unknownMode, tally, cleared, Entry, doorOf, answered, doorBy, filterDoorOf, filterDoorBy}
+use Rattle.vurelika.proofs.Empty.{EmptyRefused}
+
+-- ---- shift and zoom
+module _ (entry : Entry) (mode : ℕ) (r : Request) (input output : List Float) (coverage : List ℕ) (work : List Float) (counts : List ℕ) where
+  -- `counts` has its places: the entry's call
+  pub answers :
+      {r' : Request} {status : ℕ} {a : Answer} {o w : List Float} {c n : List ℕ} → isMode mode ≡ true → length counts ≡ places → r' ≡ r → callOf a o c w ≡ entry r' input output coverage work → status ≡ numberIn a → n ≡ tally (countsIn a) →
+      doorOf status o c w n ≡ doorBy entry mode r input output coverage work counts
+  unfolding doorBy
+  answers {o = o} {w = w} {c = c} known right asked called told counted =
+      (λ i. doorOf (told i) o c w (counted i))
+      ∙ ap answered called
+      ∙ ap (λ (q : Request). answered (entry q input output coverage work)) asked
+      ∙ simp (known, eq-eqb (length counts) places right)
+
+  -- it has not: the entry refuses, and leaves every buffer
+  pub refuses :
+      {r' : Request} {status : ℕ} {a : Answer} {o w : List Float} {c : List ℕ} → EmptyRefused entry → isMode mode ≡ true → (length counts ≡ places → ⊥) → r' ≡ r → callOf a o c w ≡ entry r' input [] coverage work → status ≡ numberIn a →
+      doorOf status (o ++ output) c w counts ≡ doorBy entry mode r input output coverage work counts
+  unfolding doorBy
+  refuses {a = a} {o = o} {w = w} {c = c} empty known wrong asked called told =
+      let left : callOf a o c w ≡ callOf (answer.Refused (empty r input output coverage work .why)) [] coverage work = called ∙ ap (λ (q : Request). entry q input [] coverage work) asked ∙ empty r input output coverage work .left in
+      (λ i. doorOf (told i) (left i .output ++ output) (left i .coverage) (left i .work) counts)
+      ∙ ap (λ (q : Call). doorOf (numberIn (q .answer)) output coverage work counts) (called ∙ ap (λ (q : Request). entry q input [] coverage work) asked)
+      ∙ simp (known, ne-eqb (length counts) places wrong)
+
+  -- the mode has no number
+  pub unknown : {n : List ℕ} → isMode mode ≡ false → n ≡ cleared counts → doorOf unknownMode output coverage work n ≡ doorBy entry mode r input output coverage work counts
+  unfolding doorBy
+  unknown none counted = ap (λ (n : List ℕ). doorOf unknownMode output coverage work n) counted ∙ simp none
+
+-- ---- the two filters
+module _ (entry : Request → FilterCall) (mode : ℕ) (r : Request) (output : List Float) where
+  pub filter-answers :
+      {r' : Request} {status : ℕ} {v : Verdict} {o : List Float} → isMode mode ≡ true → r' ≡ r → filterCallOf v o ≡ entry r' → status ≡ numberBy v →
+      filterDoorOf status o ≡ filterDoorBy mode (entry r) output
+  unfolding filterDoorBy
+  filter-answers {o = o} known asked called told =
+      ap (λ (n : ℕ). filterDoorOf n o) told
+      ∙ ap (λ (q : FilterCall). filterDoorOf (numberBy (q .answer)) (q .output)) (called ∙ ap entry asked)
+      ∙ simp known
+
+pub filter-unknown : (mode : ℕ) (call : FilterCall) (output : List Float) → isMode mode ≡ false → filterDoorOf unknownMode output ≡ filterDoorBy mode call output
+unfolding filterDoorBy
+filter-unknown mode call output none = simp none

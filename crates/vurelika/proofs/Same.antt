@@ -1,0 +1,68 @@
+-- Two outcomes that a contract of the door allows are identical: what is returned, and what every lent buffer then holds.
+use Prim.Native.Nat.{ℕ}
+use mathlib.Core.Path.{_≡_, sym, ap, _∙_}
+use mathlib.Core.List.{List}
+use lib.Ieee.{Float}
+use Rattle.resample.specs.Call.{shiftCall, zoomCall, splineFilterCall, splineFilter1dCall}
+use Rattle.vurelika.specs.Door.{requestOf, plainRequestOf, Door, doorBy, FilterDoor, filterDoorBy, zoomLength, workCount}
+
+-- a contract says that the outcome is what a definition says: that allows one only
+same : {A : Type 0} {x y means : A} → x ≡ means → y ≡ means → x ≡ y
+same p q = p ∙ sym q
+
+-- ---- component by component
+pub record SameDoor (x y : Door) : Type 0 where
+  pub status : x .status ≡ y .status
+  pub output : x .output ≡ y .output
+  pub coverage : x .coverage ≡ y .coverage
+  pub work : x .work ≡ y .work
+  pub counts : x .counts ≡ y .counts
+
+same-door : {x y : Door} → x ≡ y → SameDoor x y
+same-door e = record {
+  status = ap (λ (d : Door). d .status) e;
+  output = ap (λ (d : Door). d .output) e;
+  coverage = ap (λ (d : Door). d .coverage) e;
+  work = ap (λ (d : Door). d .work) e;
+  counts = ap (λ (d : Door). d .counts) e;
+}
+
+pub record SameFilterDoor (x y : FilterDoor) : Type 0 where
+  pub status : x .status ≡ y .status
+  pub output : x .output ≡ y .output
+
+same-filter-door : {x y : FilterDoor} → x ≡ y → SameFilterDoor x y
+same-filter-door e = record { status = ap (λ (d : FilterDoor). d .status) e; output = ap (λ (d : FilterDoor). d .output) e }
+
+-- ---- the six functions
+module _ (d0 d1 d2 : ℕ) (f0 f1 f2 : Float) (order prefilter mode : ℕ) (fill : Float) (input output : List Float) (coverage : List ℕ) (work : List Float) (counts : List ℕ) {x y : Door} where
+  pub same-shift :
+      x ≡ doorBy shiftCall mode (requestOf d0 d1 d2 f0 f1 f2 order prefilter mode fill) input output coverage work counts →
+      y ≡ doorBy shiftCall mode (requestOf d0 d1 d2 f0 f1 f2 order prefilter mode fill) input output coverage work counts →
+      SameDoor x y
+  same-shift p q = same-door (same p q)
+
+  pub same-zoom :
+      x ≡ doorBy zoomCall mode (requestOf d0 d1 d2 f0 f1 f2 order prefilter mode fill) input output coverage work counts →
+      y ≡ doorBy zoomCall mode (requestOf d0 d1 d2 f0 f1 f2 order prefilter mode fill) input output coverage work counts →
+      SameDoor x y
+  same-zoom p q = same-door (same p q)
+
+module _ (d0 d1 d2 order mode : ℕ) (fill : Float) (input output : List Float) {x y : FilterDoor} where
+  pub same-spline-filter :
+      x ≡ filterDoorBy mode (splineFilterCall (plainRequestOf d0 d1 d2 order 0 mode fill) input output) output →
+      y ≡ filterDoorBy mode (splineFilterCall (plainRequestOf d0 d1 d2 order 0 mode fill) input output) output →
+      SameFilterDoor x y
+  same-spline-filter p q = same-filter-door (same p q)
+
+  pub same-spline-filter1d :
+      (axis : ℕ) → x ≡ filterDoorBy mode (splineFilter1dCall (plainRequestOf d0 d1 d2 order 0 mode fill) axis input output) output →
+      y ≡ filterDoorBy mode (splineFilter1dCall (plainRequestOf d0 d1 d2 order 0 mode fill) axis input output) output →
+      SameFilterDoor x y
+  same-spline-filter1d axis p q = same-filter-door (same p q)
+
+pub same-zoom-length : (length : ℕ) (factor : Float) {n m : ℕ} → n ≡ zoomLength length factor → m ≡ zoomLength length factor → n ≡ m
+same-zoom-length length factor p q = same p q
+
+pub same-work-count : (d0 d1 d2 order prefilter mode : ℕ) {n m : ℕ} → n ≡ workCount d0 d1 d2 order prefilter mode → m ≡ workCount d0 d1 d2 order prefilter mode → n ≡ m
+same-work-count d0 d1 d2 order prefilter mode p q = same p q

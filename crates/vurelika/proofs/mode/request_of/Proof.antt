@@ -1,0 +1,13 @@
+-- `vurelika::mode::request_of` meets its contract.
+use borrow.Author.Needs.{needs}
+use Rattle.vurelika.proofs.mode.request_of.Statement.{statement}
+use Rattle.vurelika.proofs.mode.request_of.Tie as tie
+
+mode-of-requires : tie.Need-mode-of-requires
+mode-of-requires c κs = search needs
+
+returns : tie.Need-returns
+returns c = simp (c .mode-of .ensures)
+
+pub request-of-spec : {M : Type 1} → statement M
+request-of-spec = tie.close (tie.spec mode-of-requires returns)

@@ -1,0 +1,2 @@
+-- The door for C: what each call answers and leaves.
+pub mod Door

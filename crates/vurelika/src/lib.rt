@@ -1,0 +1,179 @@
+// The door for C: the four entries, and the lengths of what their caller lends. A slice is a pointer, then a length.
+// No caller has checked anything.
+ghost use mathlib.Core.Path.{_≡_};
+ghost use Rattle.resample.specs.Call.{shiftCall, zoomCall, splineFilterCall, splineFilter1dCall};
+ghost use Rattle.vurelika.specs.Door.{requestOf, plainRequestOf, doorOf, doorBy, filterDoorOf, filterDoorBy, zoomLength, workCount};
+use crate::mode::is_mode;
+use crate::mode::plain_request_of;
+use crate::mode::request_of;
+use crate::report::PLACES;
+use crate::report::UNKNOWN_MODE;
+use crate::report::clear;
+use crate::report::number_in;
+use crate::report::report;
+use crate::report::verdict_number;
+use axis::coordinate::output_length;
+use request::refusal::bad_length;
+use request::refusal::bad_lengths;
+use request::refusal::bad_zoom;
+use request::sizes::needed;
+use resample::shift;
+use resample::spline_filter;
+use resample::spline_filter1d;
+use resample::zoom;
+
+mod mode;
+mod report;
+
+#[no_mangle]
+pub extern "C" fn vurelika_shift(
+    d0: usize,
+    d1: usize,
+    d2: usize,
+    f0: f64,
+    f1: f64,
+    f2: f64,
+    order: usize,
+    prefilter: u32,
+    mode: u32,
+    fill: f64,
+    input: &[f64],
+    output: &mut [f64],
+    coverage: &mut [u8],
+    work: &mut [f64],
+    counts: &mut [u64],
+) -> u32
+    ensures { λ status. ⌜ doorOf status (now (output .exit)) (now (coverage .exit)) (now (work .exit)) (now (counts .exit)) ≡ doorBy shiftCall mode (requestOf d0 d1 d2 f0 f1 f2 order prefilter mode fill) (now (input .entry)) (now (output .entry)) (now (coverage .entry)) (now (work .entry)) (now (counts .entry)) ⌝ }
+{
+    if is_mode(mode) {
+        let r = request_of(d0, d1, d2, f0, f1, f2, order, prefilter, mode, fill);
+        if counts.len() == PLACES {
+            report(counts, shift(r, input, output, coverage, work))
+        } else {
+            // no request has an empty output: the entry refuses
+            number_in(shift(r, input, &mut output[0..0], coverage, work))
+        }
+    } else {
+        clear(counts);
+        UNKNOWN_MODE
+    }
+}
+
+#[no_mangle]
+pub extern "C" fn vurelika_zoom(
+    d0: usize,
+    d1: usize,
+    d2: usize,
+    f0: f64,
+    f1: f64,
+    f2: f64,
+    order: usize,
+    prefilter: u32,
+    mode: u32,
+    fill: f64,
+    input: &[f64],
+    output: &mut [f64],
+    coverage: &mut [u8],
+    work: &mut [f64],
+    counts: &mut [u64],
+) -> u32
+    ensures { λ status. ⌜ doorOf status (now (output .exit)) (now (coverage .exit)) (now (work .exit)) (now (counts .exit)) ≡ doorBy zoomCall mode (requestOf d0 d1 d2 f0 f1 f2 order prefilter mode fill) (now (input .entry)) (now (output .entry)) (now (coverage .entry)) (now (work .entry)) (now (counts .entry)) ⌝ }
+{
+    if is_mode(mode) {
+        let r = request_of(d0, d1, d2, f0, f1, f2, order, prefilter, mode, fill);
+        if counts.len() == PLACES {
+            report(counts, zoom(r, input, output, coverage, work))
+        } else {
+            // no request has an empty output: the entry refuses
+            number_in(zoom(r, input, &mut output[0..0], coverage, work))
+        }
+    } else {
+        clear(counts);
+        UNKNOWN_MODE
+    }
+}
+
+#[no_mangle]
+pub extern "C" fn vurelika_spline_filter(
+    d0: usize,
+    d1: usize,
+    d2: usize,
+    order: usize,
+    mode: u32,
+    fill: f64,
+    input: &[f64],
+    output: &mut [f64],
+) -> u32
+    ensures { λ status. ⌜ filterDoorOf status (now (output .exit)) ≡ filterDoorBy mode (splineFilterCall (plainRequestOf d0 d1 d2 order 0 mode fill) (now (input .entry)) (now (output .entry))) (now (output .entry)) ⌝ }
+{
+    if is_mode(mode) {
+        let r = plain_request_of(d0, d1, d2, order, 0, mode, fill);
+        verdict_number(spline_filter(r, input, output))
+    } else {
+        UNKNOWN_MODE
+    }
+}
+
+#[no_mangle]
+pub extern "C" fn vurelika_spline_filter1d(
+    d0: usize,
+    d1: usize,
+    d2: usize,
+    order: usize,
+    axis: usize,
+    mode: u32,
+    fill: f64,
+    input: &[f64],
+    output: &mut [f64],
+) -> u32
+    ensures { λ status. ⌜ filterDoorOf status (now (output .exit)) ≡ filterDoorBy mode (splineFilter1dCall (plainRequestOf d0 d1 d2 order 0 mode fill) axis (now (input .entry)) (now (output .entry))) (now (output .entry)) ⌝ }
+{
+    if is_mode(mode) {
+        let r = plain_request_of(d0, d1, d2, order, 0, mode, fill);
+        verdict_number(spline_filter1d(r, axis, input, output))
+    } else {
+        UNKNOWN_MODE
+    }
+}
+
+// Zoom's output length; 0 where refusals 3 to 5 would answer.
+#[no_mangle]
+pub extern "C" fn vurelika_zoom_length(length: usize, factor: f64) -> usize
+    ensures { λ n. ⌜ n ≡ zoomLength length factor ⌝ }
+{
+    if bad_length(length) {
+        return 0;
+    }
+    if bad_zoom(factor) {
+        return 0;
+    }
+    let n = output_length(length, factor);
+    if bad_length(n) {
+        return 0;
+    }
+    n
+}
+
+// How many places of work a call needs; 0 where no call is answered, whatever the work.
+#[no_mangle]
+pub extern "C" fn vurelika_work_count(
+    d0: usize,
+    d1: usize,
+    d2: usize,
+    order: usize,
+    prefilter: u32,
+    mode: u32,
+) -> usize
+    ensures { λ n. ⌜ n ≡ workCount d0 d1 d2 order prefilter mode ⌝ }
+{
+    if !is_mode(mode) {
+        return 0;
+    }
+    if order > 5 {
+        return 0;
+    }
+    if bad_lengths([d0, d1, d2]) {
+        return 0;
+    }
+    needed(plain_request_of(d0, d1, d2, order, prefilter, mode, 0.0))
+}

@@ -1,0 +1,103 @@
+/* Vurelika: resampling of volumes of f64 on three axes, in which each output voxel is marked as
+ * computed or filled.
+ *
+ * A volume of d0 by d1 by d2 voxels is a flat buffer, last index fastest: the voxel x, y, z stands at
+ * (x * d1 + y) * d2 + z. Every buffer is the caller's, given as a pointer and its number of places, and
+ * is not kept after the call. Buffers must not overlap, and a pointer must be good for its number of
+ * places; that is all that a caller has to see to. Any numbers and any lengths are answered: a call
+ * ends in success or in one of the nine refusals below.
+ *
+ * A call allocates nothing, takes about 400 kB of stack, and uses nothing but what it is given: calls
+ * from several threads do not disturb each other as long as they are lent different buffers to write.
+ */
+#ifndef VURELIKA_H
+#define VURELIKA_H
+
+#include <stddef.h>
+#include <stdint.h>
+
+#ifdef __cplusplus
+extern "C" {
+#endif
+
+/* What a coordinate outside the volume stands for. Constant alone has a fill. */
+enum {
+    VURELIKA_CONSTANT = 0,
+    VURELIKA_MIRROR = 1,
+    VURELIKA_NEAREST = 2,
+    VURELIKA_REFLECT = 3,
+    VURELIKA_WRAP = 4
+};
+
+/* What a function returns: 0, or the first that applies of these, in this order. */
+enum {
+    VURELIKA_DONE = 0,
+    VURELIKA_ORDER = 1,         /* the order is above 5; for vurelika_spline_filter also 0 or 1 */
+    VURELIKA_AXIS = 2,          /* vurelika_spline_filter1d: the axis is above 2 */
+    VURELIKA_LENGTH = 3,        /* an input axis is shorter than 2 or longer than 4,096 */
+    VURELIKA_FACTOR = 4,        /* a shift is not finite, or its size is 2^20 or more; a zoom factor is
+                                   not finite, not above 0, or above 4,096 */
+    VURELIKA_OUTPUT_LENGTH = 5, /* zoom: an output axis would be shorter than 2 or longer than 4,096 */
+    VURELIKA_COUNT = 6,         /* input, output or needed work has more than 2^27 places */
+    VURELIKA_BUFFER = 7,        /* a buffer has the wrong number of places */
+    VURELIKA_VALUE = 8,         /* the fill or a voxel is not finite, or its size exceeds 2^100 */
+    VURELIKA_BESIDE = 9,        /* order 0: a coordinate is kept, but its nearest voxel lies outside */
+    VURELIKA_MODE = 255         /* the mode is none of the five: no request could be formed */
+};
+
+/* What coverage says of a voxel. */
+enum {
+    VURELIKA_COMPUTED = 0,      /* computed from input voxels */
+    VURELIKA_FILLED = 1,        /* outside, in Constant: it holds the fill, bit for bit */
+    VURELIKA_DEFAULTED = 2      /* outside, in another mode: it holds 0.0 */
+};
+
+/* Shifts a volume by f0, f1, f2 voxels: the output voxel at index i of an axis is the input at i - f.
+ * order 0 copies the nearest voxel, 1 to 5 are splines; with prefilter not 0, orders 2 to 5 filter the
+ * voxels first. fill is read in mode Constant alone.
+ *
+ * input, output and coverage have d0 * d1 * d2 places each; work has at least vurelika_work_count of
+ * them, and may be empty where that is 0; counts has exactly 3 places.
+ *
+ * On success output and coverage are written fully, work begins with the filtered coefficients, and
+ * counts says how many voxels bear the codes 0, 1 and 2; the three add up to the output's number of
+ * places. On refusal output, coverage and work hold what they held, and counts is 0, 0, 0 (where it
+ * has 3 places; else it is left alone, and the answer is VURELIKA_BUFFER or an earlier one). */
+uint32_t vurelika_shift(size_t d0, size_t d1, size_t d2, double f0, double f1, double f2,
+                        size_t order, uint32_t prefilter, uint32_t mode, double fill,
+                        const double *input, size_t input_len, double *output, size_t output_len,
+                        uint8_t *coverage, size_t coverage_len, double *work, size_t work_len,
+                        uint64_t *counts, size_t counts_len);
+
+/* Zooms a volume by the factors f0, f1, f2. output and coverage have as many places as the product of
+ * the three vurelika_zoom_length; all else is as with vurelika_shift. */
+uint32_t vurelika_zoom(size_t d0, size_t d1, size_t d2, double f0, double f1, double f2,
+                       size_t order, uint32_t prefilter, uint32_t mode, double fill,
+                       const double *input, size_t input_len, double *output, size_t output_len,
+                       uint8_t *coverage, size_t coverage_len, double *work, size_t work_len,
+                       uint64_t *counts, size_t counts_len);
+
+/* The spline coefficients of a volume, along all three axes. input and output have d0 * d1 * d2 places
+ * each. Never pads, in Nearest neither. The fill is checked in mode Constant, though it is not used. */
+uint32_t vurelika_spline_filter(size_t d0, size_t d1, size_t d2, size_t order, uint32_t mode,
+                                double fill, const double *input, size_t input_len,
+                                double *output, size_t output_len);
+
+/* The same along one axis: 0, 1 or 2. Orders 0 and 1 copy the input. */
+uint32_t vurelika_spline_filter1d(size_t d0, size_t d1, size_t d2, size_t order, size_t axis,
+                                  uint32_t mode, double fill, const double *input, size_t input_len,
+                                  double *output, size_t output_len);
+
+/* The length of an axis that is zoomed by a factor; 0 where zoom would refuse it (refusals 3 to 5). */
+size_t vurelika_zoom_length(size_t length, double factor);
+
+/* How many places of work vurelika_shift and vurelika_zoom need; 0 where they refuse whatever work is
+ * (refusals 1 and 3, and 255). */
+size_t vurelika_work_count(size_t d0, size_t d1, size_t d2, size_t order, uint32_t prefilter,
+                           uint32_t mode);
+
+#ifdef __cplusplus
+}
+#endif
+
+#endif
