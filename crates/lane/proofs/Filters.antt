@@ -8,9 +8,9 @@ use lib.Seq.{length-take-le}
 use lib.Ieee.{Float}
 use Rattle.exact.specs.Rounded.{_⊗_}
 use Rattle.lists.proofs.Tabulated.{length-tabulate}
-use Rattle.lane.specs.declared.poles.Poles.{Poles}
-use Rattle.lane.specs.Poles.{Pole, polesIn, Sound}
-use Rattle.lane.proofs.Held.{poleAt, one-in, two-in}
+use Rattle.poles.specs.declared.Poles.{Poles}
+use Rattle.poles.specs.Poles.{Pole, polesIn, Sound}
+use Rattle.poles.proofs.Held.{poleAt, one-in, two-in}
 use Rattle.lane.specs.Lane.{initCausal, causalAt, causal, initAnticausal, anticausal, passPole, passPoles, filterLane}
 
 length-causal : (z : Float) (c : List Float) → length (causal z c) ≡ length c

@@ -1,7 +1,4 @@
--- The laws of a lane's filter, and the theorem on the poles (`Roots`).
-pub mod Roots
-pub mod Powers
-pub mod Held
+-- The laws of a lane's filter.
 pub mod Passes
 pub mod Starts
 pub mod Filters

@@ -9,7 +9,7 @@ use lib.Dec.{eqb}
 use lib.ListN.{length, take}
 use lib.Ieee.{Float}
 use Rattle.exact.specs.Rounded.{_⊕_, _⊖_, _⊗_, _⊘_, num}
-use Rattle.lane.specs.Power.{power}
+use Rattle.poles.specs.Power.{power}
 use Rattle.lane.specs.Lane.{at, running, nearSum, returning, wholeSum, initCausalMirror, reflectSum, initCausalReflect, initAnticausal}
 use Rattle.lane.proofs.Passes.{in-lane, lane-length}
 

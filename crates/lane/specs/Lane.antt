@@ -9,8 +9,8 @@ use Rattle.border.specs.declared.BorderMode.{BorderMode}
 use Rattle.border.specs.declared.BorderMode.the-variants.{Constant, Mirror, Nearest, Reflect, Wrap}
 use Rattle.exact.specs.Rounded.{_⊕_, _⊖_, _⊗_, _⊘_, num}
 use Rattle.lists.specs.Tabulate.{tabulate}
-use Rattle.lane.specs.Poles.{Pole}
-use Rattle.lane.specs.Power.{power}
+use Rattle.poles.specs.Poles.{Pole}
+use Rattle.poles.specs.Power.{power}
 
 -- whether the starts are those of Reflect
 abbrev pub reflects : BorderMode → Bool

@@ -1,5 +1,2 @@
--- The filter of one lane: poles, powers, starts and passes.
-pub mod Poles
-pub mod Roots
-pub mod Power
+-- The filter of one lane: starts and passes.
 pub mod Lane

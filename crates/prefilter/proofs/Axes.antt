@@ -9,7 +9,7 @@ use native.Mathlib.Nat.{mul-comm, mul-pos, mul-le-mul}
 use lib.Dec.{lit≤}
 use lib.Ieee.{Float}
 use Rattle.border.specs.declared.BorderMode.{BorderMode}
-use Rattle.lane.specs.Poles.{Pole, polesOf, gainOf}
+use Rattle.poles.specs.Poles.{Pole, polesOf, gainOf}
 use Rattle.lane.specs.Lane.{reflects, filterLane}
 use Rattle.prefilter.specs.Volume.{filterAlong, filterAxis, filterVolume, lengthOf, strideOf, Sized}
 use Rattle.prefilter.specs.Lanes.{Grid}

@@ -8,7 +8,7 @@ use lib.ListN.{length, getD}
 use lib.Ieee.{Float, nan}
 use Rattle.border.specs.declared.BorderMode.{BorderMode}
 use Rattle.lists.specs.Tabulate.{tabulate}
-use Rattle.lane.specs.Poles.{polesOf, gainOf}
+use Rattle.poles.specs.Poles.{polesOf, gainOf}
 use Rattle.lane.specs.Lane.{at, reflects, filterLane}
 
 -- the n numbers from place `start` on, `stride` apart

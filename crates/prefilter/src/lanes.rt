@@ -2,12 +2,12 @@
 ghost use mathlib.Core.Path.{_≡_};
 ghost use Prim.Native.Nat.{_+_, _*_, _-_, _≤_, _<_};
 ghost use lib.ListN.{length, take};
-ghost use Rattle.lane.specs.Poles.{polesIn, Sound};
+ghost use Rattle.poles.specs.Poles.{polesIn, Sound};
 ghost use Rattle.lane.specs.Lane.{filterLane};
 ghost use Rattle.prefilter.specs.Volume.{laneOf, filterAlong};
 ghost use Rattle.prefilter.specs.Lanes.{Written, Grid, Replaced, lanesBy};
-use lane::line::filter_lines;
-use lane::poles::Poles;
+use lane::filter_lines;
+use poles::Poles;
 
 // The lane that starts at `start`, into the line.
 fn take_lane(line: &mut [f64], data: &[f64], start: usize, stride: usize, n: usize)

@@ -3,14 +3,14 @@ ghost use mathlib.Core.Path.{_≡_};
 ghost use Prim.Native.Nat.{_*_, _≤_};
 ghost use lib.ListN.{length};
 ghost use Rattle.lane.specs.Lane.{reflects, filterLane};
-ghost use Rattle.lane.specs.Poles.{polesIn, Sound};
+ghost use Rattle.poles.specs.Poles.{polesIn, Sound};
 ghost use Rattle.prefilter.specs.Volume.{filterAlong, filterAxis, filterVolume, Sized};
 ghost use Rattle.prefilter.specs.Lanes.{Grid};
 use crate::lanes::filter_lanes;
 use border::BorderMode;
-use lane::poles::Poles;
-use lane::poles::filter_gain;
-use lane::poles::get_filter_poles;
+use poles::Poles;
+use poles::filter_gain;
+use poles::get_filter_poles;
 
 // Whether the lane filter has the reflect starts.
 fn has_reflect_starts(mode: BorderMode) -> bool

@@ -10,11 +10,11 @@ use lib.Ieee.{Float}
 use Rattle.lists.proofs.Tabulated.{length-tabulate, getD-tabulate}
 use Rattle.axis.specs.declared.coordinate.Axis.{Axis}
 use Rattle.border.specs.declared.BorderMode.{BorderMode}
-use Rattle.voxels.specs.declared.counts.Counts.{Counts}
+use Rattle.coverage.specs.declared.counts.Counts.{Counts}
 use Rattle.border.specs.declared.BorderMode.the-variants.{Constant, Mirror, Nearest, Reflect, Wrap}
-use Rattle.voxels.specs.Coverage.{keptAt, codeAt, codeBy, codes, none, withCode, countsFrom, countsOf, total}
+use Rattle.coverage.specs.Coverage.{keptAt, codeAt, codeBy, codes, none, withCode, countsFrom, countsOf, total}
 use Rattle.voxels.specs.Voxel.{values}
-use Rattle.voxels.proofs.Counting.{total-is}
+use Rattle.coverage.proofs.Counting.{total-is}
 use Rattle.request.specs.declared.Request.{Request}
 use Rattle.resample.specs.Call.{Call, numberIn, countsIn, coefficients}
 use Rattle.promises.specs.Entries.{Entry, call, axesOf}

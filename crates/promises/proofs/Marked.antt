@@ -8,7 +8,7 @@ use lib.Dec.{lit≤}
 use lib.Ieee.{Float}
 use Rattle.border.specs.declared.BorderMode.{BorderMode}
 use Rattle.border.specs.declared.BorderMode.the-variants.{Constant, Mirror, Nearest, Reflect, Wrap}
-use Rattle.voxels.specs.Coverage.{codeAt, codeBy, dropCode, dropValue, keptAt}
+use Rattle.coverage.specs.Coverage.{codeAt, codeBy, dropCode, dropValue, keptAt}
 use Rattle.voxels.specs.Voxel.{tapOf, computed, voxelAt}
 use Rattle.axis.specs.declared.coordinate.Axis.{Axis}
 use Rattle.axis.specs.Point.{pointAt}

@@ -7,7 +7,7 @@ use lib.ListN.{getD}
 use lib.Ieee.{Float, nan}
 use Rattle.lists.specs.Tabulate.{tabulate}
 use Rattle.lists.proofs.Tabulated.{getD-tabulate}
-use Rattle.voxels.specs.Coverage.{xOf, yOf, zOf, codeAt, codes}
+use Rattle.coverage.specs.Coverage.{xOf, yOf, zOf, codeAt, codes}
 use Rattle.voxels.specs.Voxel.{voxelAt, values}
 use Rattle.border.specs.declared.BorderMode.{BorderMode}
 use Rattle.axis.specs.declared.coordinate.Axis.{Axis}

@@ -1,6 +1,6 @@
 // The nine refusals, and the tests behind them.
 ghost use mathlib.Core.Path.{_≡_};
-ghost use Rattle.request.specs.Refusals.{badLength, badLengths, badShift, badZoom, badFactors, tooLarge, wild, wildFill, someWild, someBeside};
+ghost use Rattle.request.specs.Refusals.{numberOf, numberBy, badLength, badLengths, badShift, badZoom, badFactors, tooLarge, wild, wildFill, someWild, someBeside};
 use axis::coordinate::Axis;
 use axis::taps::some_beside;
 use border::BorderMode;
@@ -21,6 +21,32 @@ pub enum Refusal {
 pub enum Verdict {
     Passed,
     Refused(Refusal),
+}
+
+pub fn number_of(why: Refusal) -> u32
+    ensures { λ r. ⌜ r ≡ numberOf why ⌝ }
+{
+    match why {
+        Refusal::Order => 1,
+        Refusal::AxisNumber => 2,
+        Refusal::Length => 3,
+        Refusal::Factor => 4,
+        Refusal::OutputLength => 5,
+        Refusal::Count => 6,
+        Refusal::Buffer => 7,
+        Refusal::Value => 8,
+        Refusal::Beside => 9,
+    }
+}
+
+// 0 where nothing is refused.
+pub fn number_by(v: Verdict) -> u32
+    ensures { λ r. ⌜ r ≡ numberBy v ⌝ }
+{
+    match v {
+        Verdict::Passed => 0,
+        Verdict::Refused(why) => number_of(why),
+    }
 }
 
 pub fn bad_length(n: usize) -> bool

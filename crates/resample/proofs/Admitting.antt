@@ -15,7 +15,7 @@ use Rattle.axis.proofs.Reaches.{shift-reaches, zoom-reaches}
 use Rattle.prefilter.specs.Volume.{countOf}
 use Rattle.request.specs.declared.Axes.{Axes}
 use Rattle.request.specs.declared.Request.{Request}
-use Rattle.voxels.specs.declared.counts.Counts.{Counts}
+use Rattle.coverage.specs.declared.counts.Counts.{Counts}
 use Rattle.resample.specs.declared.Answer.the-variants as answer
 use Rattle.resample.specs.declared.Answer.the-variants.{Done}
 use Rattle.request.specs.declared.refusal.Refusal.{Refusal}

@@ -8,7 +8,7 @@ use lib.ListN.{length, getD, drop}
 use lib.Ieee.{Float}
 use Rattle.prefilter.specs.Edge.{padded}
 use Rattle.prefilter.specs.Volume.{filterAxis, filterVolume, countOf}
-use Rattle.voxels.specs.declared.counts.Counts.{Counts}
+use Rattle.coverage.specs.declared.counts.Counts.{Counts}
 use Rattle.resample.specs.declared.Answer.{Answer}
 use Rattle.resample.specs.declared.Answer.the-variants as answer
 use Rattle.request.specs.declared.refusal.Verdict.{Verdict}
@@ -18,7 +18,7 @@ use Rattle.request.specs.declared.Request.{Request}
 use Rattle.request.specs.Sizes.{filters, padding, sourceDims, needed, shiftAxes, zoomAxes, Lengths}
 use Rattle.request.specs.Refusals.{numberOf, first, shiftChecks, zoomChecks, splineFilterChecks, splineFilter1dChecks}
 use Rattle.voxels.specs.Table.{Reaches}
-use Rattle.voxels.specs.Coverage.{codes, countsOf, none}
+use Rattle.coverage.specs.Coverage.{codes, countsOf, none}
 use Rattle.voxels.specs.Voxel.{values}
 
 -- ---- what the sums read: "Nearest in `shift` and `zoom` first pads"

@@ -1,13 +1,15 @@
 // The four entries. Each refuses, or prepares the coefficients and sweeps; no caller has checked anything.
 ghost use mathlib.Core.Path.{_≡_};
-ghost use Rattle.resample.specs.Call.{callOf, shiftCall, zoomCall, filterCallOf, splineFilterCall, splineFilter1dCall};
+ghost use Rattle.resample.specs.Call.{numberIn, countsIn, callOf, shiftCall, zoomCall, filterCallOf, splineFilterCall, splineFilter1dCall};
 use crate::write::write;
+use coverage::counts::Counts;
 use prefilter::edge::copy;
 use prefilter::volume::filter_axis;
 use prefilter::volume::filter_volume;
 use request::Request;
 use request::refusal::Refusal;
 use request::refusal::Verdict;
+use request::refusal::number_of;
 use request::sizes::shift_axes;
 use request::sizes::zoom_axes;
 use request::sizes::zoom_dims;
@@ -15,7 +17,6 @@ use request::verdict::shift_verdict;
 use request::verdict::spline_filter_verdict;
 use request::verdict::spline_filter1d_verdict;
 use request::verdict::zoom_verdict;
-use voxels::counts::Counts;
 
 mod write;
 
@@ -23,6 +24,26 @@ mod write;
 pub enum Answer {
     Done(Counts),
     Refused(Refusal),
+}
+
+// Document 01's number of an answer: 0 for success.
+pub fn number_in(answer: Answer) -> u32
+    ensures { λ r. ⌜ r ≡ numberIn answer ⌝ }
+{
+    match answer {
+        Answer::Done(_) => 0,
+        Answer::Refused(why) => number_of(why),
+    }
+}
+
+// Its counts: none of a refusal.
+pub fn counts_in(answer: Answer) -> Counts
+    ensures { λ r. ⌜ r ≡ countsIn answer ⌝ }
+{
+    match answer {
+        Answer::Done(counts) => counts,
+        Answer::Refused(_) => Counts::none(),
+    }
 }
 
 pub fn shift(

@@ -5,10 +5,13 @@ ghost use Prim.Native.Nat.{_*_, _≤_};
 ghost use lib.ListN.{length};
 ghost use Rattle.prefilter.specs.Volume.{countOf};
 ghost use Rattle.request.specs.Sizes.{filters, sourceDims, needed, Lengths};
-ghost use Rattle.voxels.specs.Coverage.{countsOf};
+ghost use Rattle.coverage.specs.Coverage.{countsOf};
 ghost use Rattle.resample.specs.Call.{sourceOf, coefficients, callOf, valuesOf, codesOf, workAfter, success, Admitted, Passes};
 ghost use Rattle.resample.specs.declared.Answer.the-variants.{Done};
 use axis::coordinate::pad_of;
+use coverage::counts::Counts;
+use coverage::counts::count_codes;
+use coverage::cover::cover;
 use prefilter::edge::copy;
 use prefilter::edge::pad;
 use prefilter::volume::filter_volume;
@@ -17,9 +20,6 @@ use request::Request;
 use request::sizes::filters;
 use request::sizes::needed;
 use request::sizes::source_dims;
-use voxels::counts::Counts;
-use voxels::counts::count_codes;
-use voxels::cover::cover;
 use voxels::sweep::sweep;
 
 // What is filtered: the input, or the input with its edge copies.

@@ -1,6 +1,4 @@
--- The laws of sums, tables, coverage and counts.
+-- The laws of sums, tables and sweeps.
 pub mod Sums
 pub mod Tables
-pub mod Counting
-pub mod Covering
 pub mod Sweeping

@@ -22,7 +22,7 @@ use Rattle.voxels.specs.Sum.{Tap, sumX, sumY, sumZ, sumAt}
 use Rattle.voxels.specs.declared.sum.Four.{Four}
 use Rattle.voxels.specs.Lent.{column, lane, number, Planes}
 use Rattle.voxels.specs.Table.{Tabled}
-use Rattle.voxels.specs.Coverage.{keptAt, dropValue, xOf, yOf, zOf}
+use Rattle.coverage.specs.Coverage.{keptAt, dropValue, xOf, yOf, zOf}
 use Rattle.voxels.specs.Voxel.{tapOf, computed, voxelAt, values}
 use Rattle.voxels.proofs.Tables.{point-inside}
 use Rattle.voxels.specs.Sweep.{withVoxel, withFour, rowValue, planeValue, volumeValue}

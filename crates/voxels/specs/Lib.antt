@@ -1,7 +1,6 @@
--- What each output voxel holds and bears.
+-- What each output voxel holds.
 pub mod Sum
 pub mod Lent
 pub mod Table
-pub mod Coverage
 pub mod Voxel
 pub mod Sweep

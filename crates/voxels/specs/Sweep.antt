@@ -10,7 +10,7 @@ use Rattle.axis.specs.Point.{pointAt}
 use Rattle.voxels.specs.declared.sum.Four.{Four}
 use Rattle.voxels.specs.Sum.{Tap}
 use Rattle.voxels.specs.Lent.{column}
-use Rattle.voxels.specs.Coverage.{keptAt, dropValue}
+use Rattle.coverage.specs.Coverage.{keptAt, dropValue}
 use Rattle.voxels.specs.Voxel.{tapOf, computed}
 
 -- a row with the value of place k, if it has that place; and of the four from o on

@@ -12,7 +12,7 @@ use Rattle.axis.specs.declared.taps.Taps.{Taps}
 use Rattle.axis.specs.Point.{pointAt}
 use Rattle.voxels.specs.Sum.{Tap, sumAt}
 use Rattle.voxels.specs.Lent.{lent}
-use Rattle.voxels.specs.Coverage.{keptAt, dropValue, xOf, yOf, zOf}
+use Rattle.coverage.specs.Coverage.{keptAt, dropValue, xOf, yOf, zOf}
 
 -- the neighbours of a record
 abbrev pub tapOf : Taps → Tap

@@ -1,6 +1,4 @@
-// What each output voxel holds and bears: its value, its code, and the counts of the codes.
-pub mod counts;
-pub mod cover;
+// The value of every output voxel: sums, the table of the last axis, the sweep of a volume.
 mod sum;
 pub mod sweep;
 mod table;

@@ -9,18 +9,18 @@ ghost use Rattle.lists.specs.Tabulate.{tabulate};
 ghost use Rattle.voxels.specs.Sum.{sumAt};
 ghost use Rattle.voxels.specs.Lent.{lent, column, Planes, Inside};
 ghost use Rattle.voxels.specs.Table.{Reaches};
-ghost use Rattle.voxels.specs.Coverage.{dropValue};
+ghost use Rattle.coverage.specs.Coverage.{dropValue};
 ghost use Rattle.voxels.specs.Voxel.{computed, values};
 ghost use Rattle.voxels.specs.Sweep.{withVoxel, withFour, rowValue, planeValue, volumeValue};
-use crate::cover::both;
-use crate::cover::is_kept;
-use crate::cover::mark_kept;
 use crate::sum::Four;
 use crate::sum::sum_four;
 use crate::table::fill_table;
 use axis::coordinate::Axis;
 use axis::taps::taps_at;
 use border::BorderMode;
+use coverage::cover::both;
+use coverage::cover::is_kept;
+use coverage::cover::mark_kept;
 
 // The value of a dropped voxel.
 fn drop_value(mode: BorderMode) -> f64

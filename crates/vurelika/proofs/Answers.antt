@@ -16,7 +16,7 @@ use Rattle.request.specs.declared.refusal.Verdict.{Verdict}
 use Rattle.request.specs.declared.refusal.Verdict.the-variants.{Passed, Refused}
 use Rattle.request.specs.Refusals.{numberOf, first, shiftChecks, zoomChecks, numberBy}
 use Rattle.request.specs.Sizes.{shiftAxes, zoomAxes}
-use Rattle.voxels.specs.Coverage.{none}
+use Rattle.coverage.specs.Coverage.{none}
 use Rattle.resample.specs.declared.Answer.{Answer}
 use Rattle.resample.specs.declared.Answer.the-variants as answer
 use Rattle.resample.specs.Call.{Call, FilterCall, callOf, callBy, numberIn, shiftCall, zoomCall}

@@ -12,8 +12,8 @@ use Rattle.axis.specs.Length.{outputLength}
 use Rattle.request.specs.declared.Request.{Request}
 use Rattle.request.specs.Sizes.{needed}
 use Rattle.request.specs.Refusals.{numberBy, badOrder, badLength, badLengths, badZoom}
-use Rattle.voxels.specs.declared.counts.Counts.{Counts}
-use Rattle.voxels.specs.Coverage.{none}
+use Rattle.coverage.specs.declared.counts.Counts.{Counts}
+use Rattle.coverage.specs.Coverage.{none}
 use Rattle.resample.specs.Call.{Call, FilterCall, numberIn, countsIn}
 
 -- ---- the numbers of the modes

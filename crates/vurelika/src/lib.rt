@@ -9,14 +9,14 @@ use crate::mode::request_of;
 use crate::report::PLACES;
 use crate::report::UNKNOWN_MODE;
 use crate::report::clear;
-use crate::report::number_in;
 use crate::report::report;
-use crate::report::verdict_number;
 use axis::coordinate::output_length;
 use request::refusal::bad_length;
 use request::refusal::bad_lengths;
 use request::refusal::bad_zoom;
+use request::refusal::number_by;
 use request::sizes::needed;
+use resample::number_in;
 use resample::shift;
 use resample::spline_filter;
 use resample::spline_filter1d;
@@ -108,7 +108,7 @@ pub extern "C" fn vurelika_spline_filter(
 {
     if is_mode(mode) {
         let r = plain_request_of(d0, d1, d2, order, 0, mode, fill);
-        verdict_number(spline_filter(r, input, output))
+        number_by(spline_filter(r, input, output))
     } else {
         UNKNOWN_MODE
     }
@@ -130,7 +130,7 @@ pub extern "C" fn vurelika_spline_filter1d(
 {
     if is_mode(mode) {
         let r = plain_request_of(d0, d1, d2, order, 0, mode, fill);
-        verdict_number(spline_filter1d(r, axis, input, output))
+        number_by(spline_filter1d(r, axis, input, output))
     } else {
         UNKNOWN_MODE
     }

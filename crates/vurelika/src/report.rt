@@ -1,62 +1,18 @@
 // What a caller is told: a number, and counts.
 ghost use mathlib.Core.Path.{_≡_};
 ghost use lib.ListN.{length};
-ghost use Rattle.request.specs.Refusals.{numberOf, numberBy};
 ghost use Rattle.resample.specs.Call.{numberIn, countsIn};
 ghost use Rattle.vurelika.specs.Door.{places, tally, cleared};
-use request::refusal::Refusal;
-use request::refusal::Verdict;
+use coverage::counts::Counts;
 use resample::Answer;
-use voxels::counts::Counts;
+use resample::counts_in;
+use resample::number_in;
 
 // The places of `counts`: one for each code.
 pub(crate) const PLACES: usize = 3;
 
 // The answer to a mode that has no number here.
 pub(crate) const UNKNOWN_MODE: u32 = 255;
-
-fn number_of(why: Refusal) -> u32
-    ensures { λ r. ⌜ r ≡ numberOf why ⌝ }
-{
-    match why {
-        Refusal::Order => 1,
-        Refusal::AxisNumber => 2,
-        Refusal::Length => 3,
-        Refusal::Factor => 4,
-        Refusal::OutputLength => 5,
-        Refusal::Count => 6,
-        Refusal::Buffer => 7,
-        Refusal::Value => 8,
-        Refusal::Beside => 9,
-    }
-}
-
-pub(crate) fn verdict_number(v: Verdict) -> u32
-    ensures { λ r. ⌜ r ≡ numberBy v ⌝ }
-{
-    match v {
-        Verdict::Passed => 0,
-        Verdict::Refused(why) => number_of(why),
-    }
-}
-
-pub(crate) fn number_in(answer: Answer) -> u32
-    ensures { λ r. ⌜ r ≡ numberIn answer ⌝ }
-{
-    match answer {
-        Answer::Done(_) => 0,
-        Answer::Refused(why) => number_of(why),
-    }
-}
-
-fn counts_in(answer: Answer) -> Counts
-    ensures { λ r. ⌜ r ≡ countsIn answer ⌝ }
-{
-    match answer {
-        Answer::Done(counts) => counts,
-        Answer::Refused(_) => Counts::none(),
-    }
-}
 
 fn put(counts: &mut [u64], c: Counts)
     requires { ⌜ length (now counts) ≡ places ⌝ }

@@ -17,8 +17,8 @@ plain-request-of-requires c κs = search needs
 spline-filter-requires : tie.Need-spline-filter-requires
 spline-filter-requires c κs = search needs
 
-verdict-number-requires : tie.Need-verdict-number-requires
-verdict-number-requires c κs = search needs
+number-by-requires : tie.Need-number-by-requires
+number-by-requires c κs = search needs
 
 same-length : tie.Need-same-length
 same-length c = search needs
@@ -29,7 +29,7 @@ returns c =
     let asked = call .before .before in
     let known = asked .before in
     let a = known .before .before .before .before .args in
-    filter-answers (λ (r : Request). splineFilterCall r (a .input .now) (a .output .now)) (a .mode) (plainRequestOf (a .d0) (a .d1) (a .d2) (a .order) 0 (a .mode) (a .fill)) (a .output .now) (sym (known .before .is-mode .ensures) ∙ known .if1 .taken) (asked .plain-request-of .ensures) (call .spline-filter .ensures) (c .verdict-number .ensures)
+    filter-answers (λ (r : Request). splineFilterCall r (a .input .now) (a .output .now)) (a .mode) (plainRequestOf (a .d0) (a .d1) (a .d2) (a .order) 0 (a .mode) (a .fill)) (a .output .now) (sym (known .before .is-mode .ensures) ∙ known .if1 .taken) (asked .plain-request-of .ensures) (call .spline-filter .ensures) (c .number-by .ensures)
 
 returns-2 : tie.Need-returns-2
 returns-2 c = filter-unknown _ _ _ (sym (c .before .is-mode .ensures) ∙ c .if1 .left)
@@ -41,7 +41,7 @@ vurelika-spline-filter-spec =
     is-mode-requires
     plain-request-of-requires
     spline-filter-requires
-    verdict-number-requires
+    number-by-requires
     same-length
     returns
     returns-2)

@@ -3,7 +3,7 @@ use Prim.Native.Nat.{_-_}
 use mathlib.Core.Path.{refl}
 use mathlib.Core.Logic.{inr}
 use native.Mathlib.Omega.{arith}
-use Rattle.lane.specs.Poles.{polesIn}
+use Rattle.poles.specs.Poles.{polesIn}
 use Rattle.lane.specs.Lane.{filterLane}
 use Rattle.prefilter.specs.Lanes.{Replaced, lanesBy}
 use Rattle.prefilter.proofs.Grids.{lanes-few, of-length}

@@ -4,7 +4,7 @@ use mathlib.Core.Path.{_≡_, refl, _∙_}
 use borrow.Rule.Slice.PartMut.{same-len-mid}
 use native.Mathlib.Omega.{arith}
 use lib.ListN.{length}
-use Rattle.lane.specs.Poles.{polesIn}
+use Rattle.poles.specs.Poles.{polesIn}
 use Rattle.lane.specs.Lane.{filterLane}
 use Rattle.prefilter.specs.Volume.{filterAlong}
 use Rattle.prefilter.proofs.Grids.{of-length}

@@ -2,7 +2,7 @@
 use Prim.Native.Nat.{ℕ}
 use mathlib.Core.Path.{_∙_, ap}
 use mathlib.Core.List.{List}
-use Rattle.voxels.specs.Coverage.{countsOf}
+use Rattle.coverage.specs.Coverage.{countsOf}
 use borrow.Author.Needs.{needs}
 use Rattle.resample.proofs.write.write_codes.Statement.{statement}
 use Rattle.resample.proofs.write.write_codes.Tie as tie

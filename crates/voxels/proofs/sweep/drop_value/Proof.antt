@@ -2,7 +2,7 @@
 use mathlib.Core.Path.{sym, ap}
 use lib.Ieee.{ofBits, ofInt}
 use Rattle.border.specs.declared.BorderMode.{BorderMode}
-use Rattle.voxels.specs.Coverage.{dropValue}
+use Rattle.coverage.specs.Coverage.{dropValue}
 use borrow.Author.Needs.{needs}
 use Rattle.voxels.proofs.sweep.drop_value.Statement.{statement}
 use Rattle.voxels.proofs.sweep.drop_value.Tie as tie

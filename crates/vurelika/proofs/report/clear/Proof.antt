@@ -2,7 +2,7 @@
 use Prim.Native.Nat.{ℕ}
 use mathlib.Core.Path.{ap, _∙_}
 use borrow.Author.Tests.{eq-eqb, ne-eqb}
-use Rattle.voxels.specs.declared.counts.Counts.{Counts}
+use Rattle.coverage.specs.declared.counts.Counts.{Counts}
 use Rattle.vurelika.specs.Door.{tally, cleared}
 use borrow.Author.Needs.{needs}
 use Rattle.vurelika.proofs.report.clear.Statement.{statement}

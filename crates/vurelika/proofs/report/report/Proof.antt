@@ -1,6 +1,6 @@
 -- `vurelika::report::report` meets its contract.
 use mathlib.Core.Path.{ap, _∙_}
-use Rattle.voxels.specs.declared.counts.Counts.{Counts}
+use Rattle.coverage.specs.declared.counts.Counts.{Counts}
 use Rattle.vurelika.specs.Door.{tally}
 use borrow.Author.Needs.{needs}
 use Rattle.vurelika.proofs.report.report.Statement.{statement}

@@ -1,0 +1,3 @@
+-- The laws of codes and counts.
+pub mod Counting
+pub mod Covering

@@ -1,0 +1,30 @@
+-- `resample::counts::Counts::with` meets its contract.
+use borrow.Author.Tests.{eq-eqb, ne-eqb}
+use Rattle.coverage.specs.Coverage.{withCode}
+use borrow.Author.Needs.{needs}
+use Rattle.coverage.proofs.counts.Counts.with.Statement.{statement}
+use Rattle.coverage.proofs.counts.Counts.with.Tie as tie
+
+add-self : tie.Need-add-self
+add-self c = search needs
+
+add-self-2 : tie.Need-add-self-2
+add-self-2 c = search needs
+
+add-self-3 : tie.Need-add-self-3
+add-self-3 c = search needs
+
+returns : tie.Need-returns
+unfolding withCode
+returns c = simp (eq-eqb _ _ (c .before .if1 .taken))
+
+returns-2 : tie.Need-returns-2
+unfolding withCode
+returns-2 c = simp (ne-eqb _ _ (c .before .before .if1 .left), eq-eqb _ _ (c .before .if2 .taken))
+
+returns-3 : tie.Need-returns-3
+unfolding withCode
+returns-3 c = simp (ne-eqb _ _ (c .before .before .if1 .left), ne-eqb _ _ (c .before .if2 .left))
+
+pub with-spec : {M : Type 1} → statement M
+with-spec = tie.close (tie.spec add-self add-self-2 add-self-3 returns returns-2 returns-3)

@@ -1,0 +1,90 @@
+-- "Coverage codes. 0: computed from input voxels. 1: dropped, Constant. 2: dropped, any other mode. The counts say how many voxels bear each code and sum to the output count. The running counts are handed back with each new code added."
+use Prim.Native.Nat.{ℕ, _+_, _*_, _/_, _%_}
+use mathlib.Core.Bool.{Bool, false, _&&_, cond}
+use mathlib.Core.List.{List, [], _∷_}
+use lib.Dec.{eqb}
+use lib.ListN.{getD}
+use lib.Ieee.{Float}
+use Rattle.exact.specs.Rounded.{num}
+use Rattle.lists.specs.Tabulate.{tabulate}
+use Rattle.border.specs.declared.BorderMode.{BorderMode}
+use Rattle.border.specs.declared.BorderMode.the-variants.{Constant, Mirror, Nearest, Reflect, Wrap}
+use Rattle.axis.specs.declared.coordinate.Axis.{Axis}
+use Rattle.axis.specs.Coordinate.{settled, kept}
+use Rattle.coverage.specs.declared.counts.Counts.{Counts}
+
+-- what a voxel with a dropped axis bears: its code, and "the fill in Constant, else 0.0"
+abbrev pub dropCode : BorderMode → ℕ
+dropCode (Constant fill) = 1
+dropCode Mirror = 2
+dropCode Nearest = 2
+dropCode Reflect = 2
+dropCode Wrap = 2
+
+abbrev pub dropValue : BorderMode → Float
+dropValue (Constant fill) = fill
+dropValue Mirror = num 0
+dropValue Nearest = num 0
+dropValue Reflect = num 0
+dropValue Wrap = num 0
+
+-- whether an axis keeps an output index
+unfoldable pub keptAt : BorderMode → Axis → ℕ → Bool
+unfolding settled
+keptAt mode a i = kept (settled mode a i)
+
+abbrev pub codeBy : BorderMode → Bool → ℕ
+codeBy mode all = cond all 0 (dropCode mode)
+
+-- the code of the voxel x, y, z
+unfoldable pub codeAt : BorderMode → Axis → Axis → Axis → ℕ → ℕ → ℕ → ℕ
+unfolding keptAt
+codeAt mode xa ya za x y z = codeBy mode (keptAt mode xa x && keptAt mode ya y && keptAt mode za z)
+
+-- place m of a volume whose planes have `plane` places and whose rows have `row`
+abbrev pub xOf : ℕ → ℕ → ℕ
+xOf plane m = m / plane
+
+abbrev pub yOf : ℕ → ℕ → ℕ → ℕ
+yOf plane row m = m % plane / row
+
+abbrev pub zOf : ℕ → ℕ → ℕ → ℕ
+zOf plane row m = m % plane % row
+
+unfoldable pub codes : BorderMode → Axis → Axis → Axis → List ℕ
+unfolding codeAt tabulate
+codes mode xa ya za =
+    let row = za .out in
+    let plane = ya .out * row in
+    tabulate (xa .out * plane) (λ m. codeAt mode xa ya za (xOf plane m) (yOf plane row m) (zOf plane row m))
+
+-- ---- the same by flags of the last axis, as the code has them: in a plane whose index on axis 0 is kept or not, and in the volume
+abbrev pub codeInPlane : BorderMode → Axis → ℕ → Bool → List Bool → ℕ → ℕ
+codeInPlane mode ya row first flags m = codeBy mode (first && keptAt mode ya (m / row) && getD flags (m % row) false)
+
+abbrev pub codeByFlags : BorderMode → Axis → Axis → ℕ → List Bool → ℕ → ℕ
+codeByFlags mode xa ya row flags m =
+    let plane = ya .out * row in
+    codeInPlane mode ya row (keptAt mode xa (xOf plane m)) flags (m % plane)
+
+-- ---- counts
+abbrev pub none : Counts
+none = record { computed = 0; filled = 0; defaulted = 0 }
+
+unfoldable pub withCode : Counts → ℕ → Counts
+withCode c code =
+    cond (eqb code 0) (record { computed = c .computed + 1; filled = c .filled; defaulted = c .defaulted })
+    (cond (eqb code 1) (record { computed = c .computed; filled = c .filled + 1; defaulted = c .defaulted })
+    (record { computed = c .computed; filled = c .filled; defaulted = c .defaulted + 1 }))
+
+unfoldable pub countsFrom : Counts → List ℕ → Counts
+unfolding withCode
+countsFrom c [] = c
+countsFrom c (code ∷ codes) = countsFrom (withCode c code) codes
+
+unfoldable pub countsOf : List ℕ → Counts
+unfolding countsFrom
+countsOf codes = countsFrom none codes
+
+abbrev pub total : Counts → ℕ
+total c = c .computed + c .filled + c .defaulted

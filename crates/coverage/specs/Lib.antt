@@ -1,0 +1,2 @@
+-- Codes and counts.
+pub mod Coverage

@@ -1,0 +1,4 @@
+-- Poles, gain and powers.
+pub mod Poles
+pub mod Roots
+pub mod Power

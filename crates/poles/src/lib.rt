@@ -1,0 +1,76 @@
+// The poles of each order, the gain of the filter, and powers of a pole.
+ghost use mathlib.Core.Path.{_≡_};
+ghost use Prim.Native.Nat.{_≤_};
+ghost use Rattle.poles.specs.Poles.{polesOf, polesIn, gainOf, gainFactor, Sound};
+ghost use Rattle.poles.specs.Power.{power};
+
+// The one or two poles of an order, with their cut-off counts.
+pub struct Poles {
+    pub count: usize,
+    pub pole: [f64; 2],
+    pub cutoff: [usize; 2],
+}
+
+pub fn get_filter_poles(order: usize) -> Poles
+    requires { ⌜ (2 ≤ order) × (order ≤ 5) ⌝ }
+    ensures { λ r. ⌜ Sound r × (polesIn r ≡ polesOf order) ⌝ }
+{
+    match order {
+        2 => Poles {
+            count: 1,
+            pole: [-0.1715728752538097, 0.0],
+            cutoff: [19, 0],
+        },
+        3 => Poles {
+            count: 1,
+            pole: [-0.2679491924311228, 0.0],
+            cutoff: [25, 0],
+        },
+        4 => Poles {
+            count: 2,
+            pole: [-0.3613412259002118, -0.013725429297341663],
+            cutoff: [33, 7],
+        },
+        _ => Poles {
+            count: 2,
+            pole: [-0.43057534709997825, -0.04309628820326328],
+            cutoff: [40, 10],
+        },
+    }
+}
+
+pub fn filter_gain(p: Poles) -> f64
+    requires { ⌜ Sound p ⌝ }
+    ensures { λ r. ⌜ r ≡ gainOf (polesIn p) ⌝ }
+{
+    let z = p.pole;
+    let gain = 1.0 * gain_of_pole(z[0]);
+    if p.count == 2 {
+        gain * gain_of_pole(z[1])
+    } else {
+        gain
+    }
+}
+
+fn gain_of_pole(z: f64) -> f64
+    ensures { λ r. ⌜ r ≡ gainFactor z ⌝ }
+{
+    (1.0 - z) * (1.0 - 1.0 / z)
+}
+
+// x to the power n, by repeated squaring from the low bit.
+pub fn powi(x: f64, n: usize) -> f64
+    ensures { λ r. ⌜ r ≡ power x n ⌝ }
+{
+    let mut r = 1.0;
+    let mut a = x;
+    let mut b = n;
+    while b > 0 {
+        if b % 2 == 1 {
+            r = r * a;
+        }
+        a = a * a;
+        b = b / 2;
+    }
+    r
+}
