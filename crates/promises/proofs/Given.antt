@@ -1,5 +1,5 @@
 -- "The first that applies is given, and a refusal is given only then": refusal n is the answer exactly when its condition holds and no earlier one does; success, exactly when none holds; and there is no other answer.
-use Prim.Native.Nat.{ℕ, zero, suc, _≤_, _<_}
+use Prim.Native.Nat.{ℕ, _≤_, _<_}
 use native.Mathlib.Omega.{arith}
 use mathlib.Core.Path.{_≡_, refl, sym, ap, _∙_, subst}
 use mathlib.Core.Logic.{_↔_}

@@ -1,4 +1,4 @@
--- The promises.
+-- The promises: of every call, of zoom, and demand 3.
 pub mod Identical
 pub mod Given
 pub mod Limits
@@ -7,3 +7,22 @@ pub mod Succeeding
 pub mod Places
 pub mod Marked
 pub mod Counted
+pub mod Upto
+pub mod Spread
+pub mod Zooming
+pub mod Halves
+pub mod OneVoxel
+pub mod WholePoint
+pub mod WholeShift
+pub mod WholeVoxel
+pub mod Nine
+pub mod WholeRequest
+pub mod Moving
+pub mod Images
+pub mod Sames
+pub mod Eight
+pub mod Returning
+pub mod Bits
+pub mod Still
+pub mod Tallies
+pub mod Staying

@@ -1,6 +1,8 @@
 -- The voxel x, y, z of a volume that is given place by place.
-use Prim.Native.Nat.{ℕ, _+_, _*_, _/_, _%_, _<_}
-use mathlib.Core.Path.{_≡_, ap, _∙_}
+use Prim.Native.Nat.{ℕ, zero, suc, _+_, _*_, _/_, _%_, _<_}
+use native.Mathlib.Nat.{zero-lt-suc, mul-zero, mod-lt, div-add-mod', div-lt-iff-lt-mul}
+use native.Mathlib.Omega.{arith}
+use mathlib.Core.Path.{_≡_, ap, subst, _∙_}
 use mathlib.Core.List.{List}
 use lib.Arith.{digits-lt, digits-div, digits-mod}
 use lib.ListN.{getD}
@@ -14,7 +16,7 @@ use Rattle.axis.specs.declared.coordinate.Axis.{Axis}
 use Rattle.request.specs.declared.Request.{Request}
 use Rattle.resample.specs.Call.{Call, coefficients}
 use Rattle.promises.specs.Entries.{Entry, call, axesOf, outputDims}
-use Rattle.promises.specs.Place.{Inside, voxel, code}
+use Rattle.promises.specs.Place.{placeOf, Inside, voxel, code}
 use Rattle.promises.proofs.Succeeding.{Succeeds}
 
 at-place :
@@ -27,6 +29,22 @@ at-place f d nx ny nz i j k hi hj hk =
     ∙ (λ t. f (digits-div i inPlane t) (yOf plane nz (i * plane + (j * nz + k))) (zOf plane nz (i * plane + (j * nz + k))))
     ∙ (λ t. f i (digits-mod i inPlane t / nz) (digits-mod i inPlane t % nz))
     ∙ (λ t. f i (digits-div j hk t) (digits-mod j hk t))
+
+-- each place is that of some x, y, z
+pub each-place : (d : List ℕ) (P : ℕ → Type 0) → ((i j k : ℕ) → Inside d i j k → P (placeOf d i j k)) → (m : ℕ) → m < getD d 0 0 * (getD d 1 0 * getD d 2 0) → P m
+each-place d P h m l =
+    let row = getD d 2 0 in
+    let plane = getD d 1 0 * row in
+    let some : 0 < plane = last-pos (getD d 0 0) plane (omega arith) in
+    let q = m % plane in
+    let below : q < plane = mod-lt m some in
+    let some' : 0 < row = last-pos (getD d 1 0) row some in
+    let own : m / plane * plane + (q / row * row + q % row) ≡ m = omega (arith, div-add-mod' m plane, div-add-mod' q row) in
+    subst P own (h (m / plane) (q / row) (q % row) (record { x = div-lt-iff-lt-mul some .1 l; y = div-lt-iff-lt-mul some' .1 below; z = mod-lt q some' }))
+  where
+    last-pos : (a b : ℕ) → 0 < a * b → 0 < b
+    last-pos a zero h = absurd (omega (arith, mul-zero a))
+    last-pos a (suc b) h = zero-lt-suc b
 
 module _ (mode : BorderMode) (xa ya za : Axis) (i j k : ℕ) (hi : i < xa .out) (hj : j < ya .out) (hk : k < za .out) where
   code-at : getD (codes mode xa ya za) (i * (ya .out * za .out) + (j * za .out + k)) 0 ≡ codeAt mode xa ya za i j k

@@ -5,3 +5,4 @@ pub mod Limits
 pub mod Place
 pub mod Marks
 pub mod Moves
+pub mod Stays

@@ -6,12 +6,16 @@ use mathlib.Core.List.{List}
 use lib.Dec.{T}
 use lib.IntN.{ℤ, pos, natAbs, _+ℤ_, _-ℤ_}
 use lib.Signed.{ltZ, leZ}
-use lib.ListN.{getD}
-use lib.Ieee.{Float, nan}
+use lib.ListN.{length, getD}
+use lib.Ieee.{Float, nan, binary64, fits}
 use Rattle.exact.specs.Whole.{Is}
 use Rattle.exact.specs.Same.{Same}
 use Rattle.request.specs.declared.Request.{Request}
 use Rattle.promises.specs.Place.{Inside, voxel, code}
+
+-- a buffer of f64 holds only values of binary64: any other number would be rounded on its way through a sum
+abbrev pub F64s : List Float → Type 0
+F64s l = (m : ℕ) → m < length l → T (fits binary64 (getD l m nan))
 
 -- the shifts of a request are whole numbers below 2^20 in size: s i on axis i
 abbrev pub Whole : Request → (ℕ → ℤ) → Type 0

@@ -1,0 +1,106 @@
+-- The record of a whole coordinate x inside its axis, at orders 0 and 1: voxel x has the weight 1, and the other neighbours, inside too, have 0.
+use Prim.Native.Nat.{ℕ, zero, suc, _+_, _-_, _/_, _≤_, _<_}
+use native.Mathlib.Omega.{arith}
+use mathlib.Core.Path.{_≡_, refl, sym, ap, _∙_, subst}
+use mathlib.Core.Bool.{Bool, true, false, _&&_, _||_, cond}
+use mathlib.Core.List.{List, _∷_}
+use lib.IntN.{pos}
+use lib.Dec.{eqb, lit≤}
+use lib.ListN.{getD, replicate}
+use lib.Ieee.{Float, nan, ofInt, sub, le}
+use borrow.Author.Tests.{le-leb, lt-leb}
+use Rattle.exact.specs.Rounded.{_⊕_, _⊖_, num}
+use Rattle.exact.specs.Whole.{Is}
+use Rattle.exact.proofs.Is.{le-is}
+use Rattle.exact.proofs.Naturals.{num-is, plus, minus, not-below}
+use Rattle.exact.proofs.Modulo.{floor-is}
+use Rattle.exact.proofs.Casts.{toUnsigned-is, unsigned-asks}
+use Rattle.exact.proofs.Withins.{is-within}
+use Rattle.lists.proofs.Tabulated.{getD-tabulate}
+use Rattle.border.specs.declared.BorderMode.{BorderMode}
+use Rattle.border.specs.Fold.{fold}
+use Rattle.border.proofs.Arms.{inside}
+use Rattle.axis.specs.declared.taps.Taps.{Taps}
+use Rattle.axis.specs.Weights.{base, leading, completed, sumFrom, buildSplines}
+use Rattle.axis.specs.Neighbours.{firstNeighbour, outside, neighbourMode, neighbour, neighbourIndex}
+use Rattle.axis.specs.Point.{neighbours, keptPoint}
+use Rattle.axis.proofs.Weights.{whole-linear}
+use Rattle.axis.proofs.Inside.{index-inside}
+use Rattle.axis.proofs.Points.{placeOf, kept-inside}
+use Rattle.voxels.specs.Lent.{lent}
+use Rattle.voxels.specs.Voxel.{tapOf}
+use Rattle.promises.proofs.Halves.{floor-half}
+use Rattle.promises.proofs.OneVoxel.{Unit}
+
+pub low-order : (P : ℕ → Type 0) → P 0 → P 1 → (order : ℕ) → order ≤ 1 → P order
+low-order P a b zero l = a
+low-order P a b (suc zero) l = b
+low-order P a b (suc (suc k)) l = absurd (omega (arith, l))
+
+-- the six weights there
+abbrev ones : List Float
+ones = num 1 ∷ replicate 5 (num 0)
+
+-- t reads voxel x of an axis L long, and nothing else that counts
+pub record Names (order L x : ℕ) (t : Taps) : Type 0 where
+  pub first : getD (t .at) 0 0 ≡ x
+  pub within : (k : ℕ) → k ≤ order → getD (t .at) k 0 < L
+  pub weights : Unit (tapOf t)
+
+unit : {w : List Float} (at : List ℕ) → w ≡ ones → Unit (lent at w)
+unit at e = record { first = subst (λ (w : List Float). Is (getD w 0 nan) (pos 1)) (sym e) (num-is 1 (lit≤ tt)); second = subst (λ (w : List Float). Is (getD w 1 nan) (pos 0)) (sym e) (num-is 0 (lit≤ tt)) }
+
+-- ---- place k of the neighbours, where it counts
+nth : (mode : BorderMode) (order L : ℕ) (first : Float) (k : ℕ) → order ≤ 5 → k ≤ order → getD (neighbours mode order L first) k 0 ≡ neighbourIndex mode (outside order L first) L first k
+unfolding neighbours
+nth mode order L first k o l =
+    getD-tabulate 6 (placeOf mode (outside order L first) order L first) 0 k (omega arith) ∙ ap (λ (b : Bool). cond b (neighbourIndex mode (outside order L first) L first k) 0) (le-leb k order l)
+
+module _ {to : Float} {x L : ℕ} (is : Is to (pos x)) (lies : x < L) (two : 2 ≤ L) (top : L ≤ 4120) where
+  weights-are : (order : ℕ) → order ≤ 1 → buildSplines order to ≡ ones
+  unfolding buildSplines leading completed sumFrom sub ofInt
+  weights-are = low-order (λ k. buildSplines k to ≡ ones) refl (whole-linear is)
+
+  base-is : (order : ℕ) → order ≤ 1 → Is (base order to) (pos x)
+  unfolding base
+  base-is = low-order (λ k. Is (base k to) (pos x)) (floor-half is (omega arith)) (subst (λ (y : Float). Is y (pos x)) (sym (floor-is is)) is)
+
+  first-is : (order : ℕ) → order ≤ 1 → Is (firstNeighbour order to) (pos x)
+  unfolding firstNeighbour
+  first-is order l =
+      let none : order / 2 ≡ 0 = omega arith in
+      let all : x - order / 2 ≡ x = omega arith in
+      subst (λ (k : ℕ). Is (base order to ⊖ num (order / 2)) (pos k)) all (minus (base-is order l) (num-is (order / 2) (omega arith)) (omega arith) (omega arith))
+
+  -- the first neighbour stays, whether or not another makes all of them pass through the fold
+  module _ {first : Float} (h : Is first (pos x)) where
+    stays : Is (first ⊕ num 0) (pos x)
+    stays = let e : x + 0 ≡ x = omega arith in subst (λ (k : ℕ). Is (first ⊕ num 0) (pos k)) e (plus h (num-is 0 (lit≤ tt)) (omega arith))
+
+    before-end : le (num L) (first ⊕ num 0) ≡ false
+    before-end = le-is (num-is L (omega arith)) stays ∙ lt-leb L x lies
+
+    index-is : (mode : BorderMode) (out : Bool) → neighbourIndex mode out L first 0 ≡ x
+    unfolding neighbourIndex neighbour
+    index-is mode out = toUnsigned-is (go out) (omega arith)
+      where
+        go : (out : Bool) → Is (cond out (fold (neighbourMode mode) (first ⊕ num 0) (num L)) (first ⊕ num 0)) (pos x)
+        go true = subst (λ (y : Float). Is y (pos x)) (inside (neighbourMode mode) (first ⊕ num 0) (num L) (not-below stays) before-end) stays
+        go false = stays
+
+    none-outside : outside 0 L first ≡ false
+    none-outside = ap (λ (b : Bool). b || le (num L) (first ⊕ num 0)) (not-below h) ∙ before-end
+
+  pub not-beside : outside 0 L (firstNeighbour 0 to) ≡ false
+  not-beside = none-outside (first-is 0 (lit≤ tt))
+
+  pub names : (order : ℕ) (mode : BorderMode) → order ≤ 1 → Names order L x (keptPoint order mode L to)
+  names order mode l =
+      let first = firstNeighbour order to in
+      let counts : (eqb order 0 && outside order L first) ≡ false = low-order (λ k. (eqb k 0 && outside k L (firstNeighbour k to)) ≡ false) not-beside refl order l in
+      let at = nth mode order L first in
+      subst (λ (t : Taps). Names order L x t) (kept-inside order mode L to refl counts refl refl) (record {
+        first = at 0 (omega arith) (omega arith) ∙ index-is (first-is order l) mode (outside order L first);
+        within = λ k m. subst (λ (j : ℕ). j < L) (sym (at k (omega arith) m)) (index-inside order mode L to k (omega arith) two top (is-within 30 is (omega arith)) (unsigned-asks is (omega arith) .0) m);
+        weights = unit (neighbours mode order L first) (weights-are order l);
+      })

@@ -1,0 +1,117 @@
+-- One axis in Constant, shifted by a whole number below 2^20: output index i reads index i - shift where that lies inside the axis, and is dropped where it does not.
+use Prim.Native.Nat.{ℕ, zero, suc, _+_, _-_, _^_, _≤_, _<_}
+use native.Mathlib.Nat.{le-refl}
+use native.Mathlib.Decide.{decLt}
+use native.Mathlib.Omega.{arith}
+use mathlib.Core.Path.{_≡_, refl, sym, ap, _∙_, subst}
+use mathlib.Core.Logic.{_⊎_, inl, inr, dite}
+use mathlib.Core.Bool.{Bool, true, false, _&&_, _||_, cond}
+use lib.IntN.{ℤ, pos, negsuc, natAbs, _-ℤ_, +ℤ-idr}
+use lib.Dec.{T, ltb, le→leb, lit≤}
+use lib.Ieee.{Float, binary64, neg, lt, le, ofInt}
+use lib.Ieee.Fits.{add-fits}
+use borrow.Author.Tests.{lt-leb}
+use Rattle.exact.specs.Rounded.{_⊕_, _⊗_, num}
+use Rattle.exact.specs.Whole.{Is}
+use Rattle.exact.proofs.Value.{is-true}
+use Rattle.exact.proofs.Tests.{or-l, or-r}
+use Rattle.exact.proofs.Is.{add-is, neg-is, lt-is, le-is}
+use Rattle.exact.proofs.Naturals.{num-is, not-below}
+use Rattle.exact.proofs.Weights.{mul-one-r}
+use Rattle.border.specs.declared.BorderMode.the-variants.{Constant}
+use Rattle.border.specs.Fold.{fold, foldConstant}
+use Rattle.border.proofs.Arms.{inside}
+use Rattle.axis.specs.declared.coordinate.Axis.{Axis}
+use Rattle.axis.specs.declared.taps.Taps.{Taps}
+use Rattle.axis.specs.Coordinate.{shiftAxis, coordinate, settled, kept}
+use Rattle.axis.specs.Neighbours.{outside, firstNeighbour}
+use Rattle.axis.specs.Point.{pointAt, besideAt}
+use Rattle.axis.proofs.Points.{point-kept}
+use Rattle.coverage.specs.Coverage.{keptAt}
+use Rattle.promises.specs.Moves.{Outside}
+use Rattle.promises.proofs.WholePoint.{Names, names, not-beside}
+
+-- ---- the size of a difference
+size : (i : ℕ) (z : ℤ) → natAbs (pos i -ℤ z) ≤ i + natAbs z
+size i (pos zero) = le-refl (i + 0)
+size i (pos (suc k)) = go (ltb i (suc k))
+  where
+    go : (b : Bool) → natAbs (cond b (negsuc (suc k - suc i)) (pos (i - suc k))) ≤ i + suc k
+    go true = omega arith
+    go false = omega arith
+size i (negsuc k) = le-refl (i + suc k)
+
+-- ---- a whole number lies inside an axis, or outside
+pub where-lies : (n : ℕ) (z : ℤ) → ((x : ℕ) × (x < n) × (z ≡ pos x)) ⊎ Outside n z
+where-lies n (negsuc k) = inr (inl tt)
+where-lies n (pos x) = dite (decLt x n) (λ l. inl (x, l, refl)) (λ b. inr (inr (le→leb n x (omega arith))))
+
+-- an axis n long, and its shift
+pub record Shifts (n : ℕ) (shift : Float) (s : ℤ) : Type 0 where
+  pub least : 2 ≤ n
+  pub most : n ≤ 4096
+  pub is : Is shift s
+  pub small : natAbs s < 2 ^ 20
+
+module _ (fill : Float) {n : ℕ} {shift : Float} {s : ℤ} (g : Shifts n shift s) (i : ℕ) (l : i < n) where
+  abbrev a : Axis
+  a = shiftAxis n shift 0
+
+  coordinate-is : Is (coordinate a i) (pos i -ℤ s)
+  unfolding coordinate ofInt
+  coordinate-is =
+      let far = size i s in
+      let moved : Is (num i ⊕ neg shift) (pos i -ℤ s) = add-is (num-is i (omega arith)) (neg-is (g .is)) (omega arith) in
+      let as-is : Is ((num i ⊕ neg shift) ⊗ num 1) (pos i -ℤ s) = subst (λ (x : Float). Is x (pos i -ℤ s)) (sym (mul-one-r (num i ⊕ neg shift) (add-fits binary64 (num i) (neg shift)))) moved in
+      let e = +ℤ-idr (pos i -ℤ s) in
+      subst (λ (z : ℤ). Is (coordinate a i) z) e (add-is as-is (num-is 0 (lit≤ tt)) (subst (λ (z : ℤ). natAbs z ≤ 2 ^ 53) (sym e) (omega arith)))
+
+  unpadded : a .len ≡ n
+  unpadded = omega arith
+
+  length-is : Is (num (a .len)) (pos n)
+  length-is = subst (λ (k : ℕ). Is (num (a .len)) (pos k)) unpadded (num-is (a .len) (omega arith))
+
+  -- ---- where the index lies outside
+  module _ (out : Outside n (pos i -ℤ s)) where
+    settles-out : settled (Constant fill) a i ≡ neg (num 1)
+    unfolding settled fold foldConstant
+    settles-out =
+        ap (λ (b : Bool). cond b (neg (num 1)) (coordinate a i)) (is-true (lt (coordinate a i) (num 0) || le (num (a .len)) (coordinate a i)) (elim out [
+          | inl b ↦ or-l (lt (coordinate a i) (num 0)) (le (num (a .len)) (coordinate a i)) (subst T (sym (lt-is coordinate-is (num-is 0 (lit≤ tt)))) b)
+          | inr b ↦ or-r (lt (coordinate a i) (num 0)) (le (num (a .len)) (coordinate a i)) (subst T (sym (le-is length-is coordinate-is)) b)
+        ]))
+
+    pub dropped : keptAt (Constant fill) a i ≡ false
+    unfolding keptAt
+    dropped = let m = neg-is (num-is 1 (lit≤ tt)) in ap kept settles-out ∙ lt-is m m
+
+  -- ---- where it is index x
+  module _ (x : ℕ) (lies : x < n) (e : pos i -ℤ s ≡ pos x) where
+    reads : Is (coordinate a i) (pos x)
+    reads = subst (λ (z : ℤ). Is (coordinate a i) z) e coordinate-is
+
+    settles : Is (settled (Constant fill) a i) (pos x)
+    unfolding settled
+    settles = subst (λ (y : Float). Is y (pos x)) (inside (Constant fill) (coordinate a i) (num (a .len)) (not-below reads) (le-is length-is reads ∙ lt-leb n x lies)) reads
+
+    pub stays : keptAt (Constant fill) a i ≡ true
+    unfolding keptAt
+    stays = lt-is (neg-is (num-is 1 (lit≤ tt))) settles
+
+    pub point-names : (order : ℕ) → order ≤ 1 → Names order n x (pointAt order (Constant fill) a i)
+    unfolding keptAt
+    point-names order o =
+        subst (λ (L : ℕ). Names order L x (pointAt order (Constant fill) a i)) unpadded
+        (subst (λ (t : Taps). Names order (a .len) x t) (point-kept order (Constant fill) a i refl stays) (names settles (omega arith) (omega arith) (omega arith) order (Constant fill) o))
+
+    inside-not-beside : besideAt (Constant fill) a i ≡ false
+    unfolding besideAt keptAt
+    inside-not-beside = ap (λ (b : Bool). kept (settled (Constant fill) a i) && b) (not-beside {L = a .len} settles (omega arith) (omega arith) (omega arith)) ∙ ap (λ (b : Bool). b && false) stays
+
+  pub never-beside : besideAt (Constant fill) a i ≡ false
+  unfolding besideAt keptAt
+  never-beside = elim (where-lies n (pos i -ℤ s)) [
+    | inl h ↦ inside-not-beside (h .0) (h .1) (h .2)
+    | inr out ↦ ap (λ (b : Bool). b && outside 0 (a .len) (firstNeighbour 0 (settled (Constant fill) a i))) (dropped out)
+  ]
