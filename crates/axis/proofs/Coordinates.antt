@@ -1,9 +1,9 @@
 -- The coordinate of an output index: by the steps that the code takes.
 use Prim.Native.Nat.{ℕ, _<_}
-use mathlib.Core.Path.{_≡_, refl, sym, ap, _∙_, subst}
+use mathlib.Core.Path.{_≡_, ap, _∙_}
 use mathlib.Core.Bool.{Bool, true, false, cond}
 use lib.Ieee.{Float}
-use borrow.Author.Tests.{lt-ltb, le-ltb}
+use borrow.Author.Tests.{lt-ltb}
 use Rattle.exact.specs.Rounded.{_⊕_, _⊗_, num}
 use Rattle.border.specs.Fold.{fold}
 use Rattle.border.specs.declared.BorderMode.{BorderMode}

@@ -1,14 +1,14 @@
 -- Each neighbour of a kept point lies inside its axis: Mirror and the clamp bring every whole number inside, and Reflect fails only at -4L and below, while a kept point's neighbours are -3 at least.
 use Prim.Native.Nat.{ℕ, zero, suc, _+_, _-_, _*_, _/_, _%_, _^_, _≤_, _<_}
-use native.Mathlib.Nat.{le-trans, le-of-eq, add-comm, mul-le-mul, lt-of-lt-of-le, not-le-of-lt}
+use native.Mathlib.Nat.{le-trans, le-of-eq, mul-le-mul}
 use native.Mathlib.Omega.{arith}
 use mathlib.Core.Path.{_≡_, refl, sym, ap, _∙_, subst}
-use mathlib.Core.Logic.{_⊎_, inl, inr}
+use mathlib.Core.Logic.{inl, inr}
 use mathlib.Core.Bool.{Bool, true, false, _||_, cond, true≢false}
-use lib.IntN.{ℤ, pos, negsuc, negℤ, natAbs, _+ℤ_, _-ℤ_, +ℤ-assoc, +ℤ-comm, negℤ-+ℤ}
-use lib.Signed.{ltZ, leZ}
-use lib.Dec.{T, eqb, lit≤}
-use lib.Ieee.{Float, fin, lt, le, toUnsigned}
+use lib.IntN.{ℤ, pos, negℤ, natAbs, _+ℤ_, _-ℤ_, +ℤ-assoc, +ℤ-comm, negℤ-+ℤ}
+use lib.Signed.{ltZ}
+use lib.Dec.{eqb, lit≤}
+use lib.Ieee.{Float, lt, le}
 use borrow.Author.Tests.{leb-false}
 use Rattle.exact.specs.Rounded.{_⊕_, _⊖_, num, half}
 use Rattle.exact.specs.Whole.{Is}

@@ -1,12 +1,12 @@
 -- Zoom's output length is a natural number for every length and factor that refusals 3 and 4 let pass.
-use Prim.Native.Nat.{ℕ, _+_, _*_, _^_, _≤_}
-use native.Mathlib.Nat.{mul-one, zero-lt-suc, le-trans, le-of-eq}
+use Prim.Native.Nat.{ℕ, _*_, _^_, _≤_}
+use native.Mathlib.Nat.{zero-lt-suc, le-trans}
 use native.Mathlib.Omega.{arith}
-use mathlib.Core.Path.{_≡_, refl, sym, ap, _∙_, subst}
+use mathlib.Core.Path.{_≡_, refl, sym, subst}
 use mathlib.Core.Bool.{true, false, true≢false}
-use lib.IntN.{ℤ, pos}
+use lib.IntN.{pos}
 use lib.Dec.{T, lit≤}
-use lib.Ieee.{Float, nan, inf, fin, binary64, up, down, round, lt, le, ofInt, toUnsigned}
+use lib.Ieee.{Float, nan, inf, fin, binary64, up, down, lt, le, ofInt}
 use lib.Ieee.Exact.{HasValue}
 use lib.Ieee.Fits.{down-pos}
 use Rattle.exact.specs.Rounded.{_⊗_, num}

@@ -1,22 +1,22 @@
 -- The record of an output index, by the steps that the code takes; and when its mark is 2.
-use Prim.Native.Nat.{ℕ, zero, suc, _+_, _≤_, _<_}
+use Prim.Native.Nat.{ℕ, _+_, _≤_, _<_}
 use native.Mathlib.Nat.{not-suc-le-zero}
 use native.Mathlib.Decide.{decLt}
 use native.Mathlib.Omega.{arith}
 use mathlib.Core.Path.{_≡_, refl, sym, ap, _∙_, subst}
 use mathlib.Core.Logic.{dite}
-use mathlib.Core.Bool.{Bool, true, false, _&&_, _||_, cond, true≢false}
+use mathlib.Core.Bool.{Bool, true, false, _&&_, cond, true≢false}
 use mathlib.Core.List.{List}
 use lib.Dec.{T, leb, eqb}
 use lib.ListN.{length, getD, set, replicate, length-set, getD-replicate, List·getD-eq-default}
 use lib.Seq.{getD-set-other}
 use lib.Ieee.{Float, neg, ofInt, lt, le}
-use borrow.Author.Tests.{le-leb, lt-leb, eq-eqb, ne-eqb, eqb-false}
+use borrow.Author.Tests.{lt-leb, eq-eqb, ne-eqb, eqb-false}
 use Rattle.exact.specs.Rounded.{_⊕_, num}
 use Rattle.exact.specs.Within.{Within}
 use Rattle.exact.proofs.Value.{of-true}
 use Rattle.exact.proofs.Above.{Above}
-use Rattle.lists.specs.Tabulate.{tabulate, Filled}
+use Rattle.lists.specs.Tabulate.{Filled}
 use Rattle.lists.proofs.Tabulated.{is-tabulate}
 use Rattle.lists.proofs.Stretches.{store}
 use Rattle.border.specs.declared.BorderMode.{BorderMode}

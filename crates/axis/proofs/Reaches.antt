@@ -1,18 +1,18 @@
 -- Bounds: every coordinate that an admitted request can reach, before and after the fold. They are crude, and far inside what the border theorem covers.
 use Prim.Native.Nat.{ℕ, zero, suc, _+_, _-_, _*_, _/_, _^_, _≤_, _<_, zero-le, suc-le-suc}
-use native.Mathlib.Nat.{le-trans, le-of-eq, mul-comm, mul-suc, mul-le-mul-left, div-mul-le-self}
+use native.Mathlib.Nat.{le-trans, mul-comm, mul-suc, mul-le-mul-left, div-mul-le-self}
 use native.Mathlib.Omega.{arith}
-use mathlib.Core.Path.{_≡_, refl, sym, ap, _∙_, subst}
+use mathlib.Core.Path.{_≡_, sym, subst}
 use mathlib.Core.Bool.{Bool, true, false, _||_, cond}
 use lib.IntN.{ℤ, pos, negsuc, natAbs, sucℤ, _+ℤ_, _*ℤ_, +ℤ-one}
-use lib.Dec.{T, lit≤}
+use lib.Dec.{lit≤}
 use lib.Ieee.{Float, neg, lt, le}
 use Rattle.exact.specs.Rounded.{_⊕_, _⊖_, _⊗_, _⊘_, num}
 use Rattle.exact.specs.Whole.{Is}
 use Rattle.exact.specs.Within.{Within}
 use Rattle.exact.specs.Floor.{floorF}
 use Rattle.exact.proofs.Is.{add-is, mul-is}
-use Rattle.exact.proofs.Naturals.{num-is, plus, minus, times}
+use Rattle.exact.proofs.Naturals.{num-is, minus, times}
 use Rattle.exact.proofs.Withins.{within-mono, add-within, sub-within, neg-within, mul-within, div-within, is-within, W-within, least-of-is}
 use Rattle.exact.proofs.Above.{floor-quotient}
 use Rattle.border.specs.declared.BorderMode.{BorderMode}

@@ -1,5 +1,5 @@
 -- The weights: by order, and at a whole coordinate.
-use Prim.Native.Nat.{ℕ, _≤_}
+use Prim.Native.Nat.{ℕ}
 use mathlib.Core.Path.{_≡_, sym, ap, _∙_}
 use mathlib.Core.List.{List, _∷_}
 use lib.IntN.{ℤ}

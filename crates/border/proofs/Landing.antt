@@ -9,7 +9,7 @@ use native.Mathlib.Omega.{arith}
 use mathlib.Core.Bool.{Bool, true, false, cond}
 use lib.IntN.{ℤ, pos, negsuc, negℤ, natAbs, pos-ne-negsuc}
 use lib.Signed.{_≤ℤ_, _<ℤ_}
-use lib.Dec.{T, ltb, ltb→lt, leb→le, le→leb, lit≤}
+use lib.Dec.{ltb, ltb→lt, leb→le, le→leb, lit≤}
 use lib.Ieee.{Float, neg, lt, le}
 use borrow.Author.Tests.{le-leb, lt-leb, le-ltb, lt-ltb}
 use Rattle.exact.specs.Rounded.{_⊕_, _⊖_, _⊗_, _⊘_, num}
@@ -20,7 +20,7 @@ use Rattle.exact.proofs.Naturals.{natAbs-neg, num-is, plus, times, minus, minus
 use Rattle.border.specs.declared.BorderMode.{BorderMode}
 use Rattle.border.specs.declared.BorderMode.the-variants.{Constant, Mirror, Nearest, Reflect, Wrap}
 use Rattle.border.specs.Fold.{under, over, mirrorPeriod, reflectPeriod, reflectUnder, fold, foldMirror, foldReflect, foldWrap}
-use Rattle.border.specs.Manual.{Rule, Stands}
+use Rattle.border.specs.Manual.{Rule}
 use Rattle.border.specs.Landing.{FarEven, OnVoxel, Lands}
 use Rattle.border.proofs.Arms as arms
 use Rattle.border.proofs.Periods.{up-own, up-image, down-own, down-image, parts, next-multiple, whole-remainder, multiple}

@@ -1,6 +1,6 @@
 -- When a coordinate ±a lies a whole number of periods away from a voxel i or its reflection -i, with the numbers in ℕ.
 use mathlib.Core.Path.{_≡_, refl, sym, ap, _∙_, subst}
-use Prim.Native.Nat.{ℕ, zero, suc, _+_, _-_, _*_, _/_, _%_, _≤_, _<_}
+use Prim.Native.Nat.{ℕ, zero, suc, _+_, _-_, _*_, _/_, _%_, _≤_}
 use native.Mathlib.Nat.{mul-zero, mul-suc, mul-comm, mul-mod-right, div-add-mod'}
 use native.Mathlib.Omega.{arith}
 use lib.IntN.{ℤ, pos, negsuc, negℤ, natAbs, _+ℤ_, _*ℤ_, +ℤ-comm, +ℤ-idl, negℤ-+ℤ, negℤ-negℤ}

@@ -1,12 +1,12 @@
 -- What is left of a whole coordinate once whole periods are taken from its size: the remainder, with the coordinate's sign.
-use mathlib.Core.Path.{_≡_, sym, ap, subst}
-use Prim.Native.Nat.{ℕ, _+_, _-_, _*_, _/_, _%_, _^_, _≤_, _<_}
+use mathlib.Core.Path.{_≡_, subst}
+use Prim.Native.Nat.{ℕ, _-_, _*_, _/_, _%_, _^_, _≤_, _<_}
 use native.Mathlib.Nat.{le-trans}
 use native.Mathlib.Omega.{arith}
-use lib.IntN.{ℤ, pos, negℤ}
+use lib.IntN.{pos, negℤ}
 use lib.Dec.{lit≤}
 use lib.Ieee.{Float, neg}
-use Rattle.exact.specs.Rounded.{_⊗_, _⊘_}
+use Rattle.exact.specs.Rounded.{_⊘_}
 use Rattle.exact.specs.Whole.{Is}
 use Rattle.exact.specs.Floor.{floorF}
 use Rattle.exact.proofs.Modulo.{floor-div-is, mod-is}

@@ -4,7 +4,7 @@ use mathlib.Core.List.{List, [], _∷_}
 use lib.Ieee.{Float, neg, eq}
 use Rattle.exact.specs.Rounded.{_⊘_, num}
 use Rattle.border.specs.declared.BorderMode.{BorderMode}
-use Rattle.border.specs.declared.BorderMode.the-variants.{Constant, Mirror, Nearest, Reflect, Wrap}
+use Rattle.border.specs.declared.BorderMode.the-variants.{Constant, Mirror, Reflect, Wrap}
 use Rattle.border.specs.Fold.{fold}
 
 pub record FoldLine : Type 0 where

@@ -8,7 +8,7 @@ use mathlib.Core.Bool.{Bool, true, false, cond}
 use mathlib.Core.List.{List, [], _∷_, _++_}
 use lib.Dec.{eqb}
 use lib.ListN.{length, getD, take}
-use lib.Seq.{take-suc, length-take-le}
+use lib.Seq.{take-suc}
 use Rattle.coverage.specs.declared.counts.Counts.{Counts}
 use Rattle.coverage.specs.Coverage.{none, withCode, countsFrom, countsOf, total}
 

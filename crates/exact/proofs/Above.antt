@@ -1,20 +1,19 @@
 -- Numbers above -1, as kept coordinates are: the floor is a whole number from -1 up, and a half more stays above -1. And the floor of a quotient, bounded by the dividend.
 use mathlib.Core.Path.{_≡_, refl, sym, ap, _∙_, subst}
 use mathlib.Core.Logic.{dite}
-use Prim.Native.Nat.{ℕ, zero, suc, suc-le-suc, _+_, _-_, _*_, _/_, _%_, _^_, _≤_, _<_, zero-le}
-use native.Mathlib.Nat.{div-eq-of-lt, div-le-self, zero-mul, lt-of-lt-of-le, mul-one, one-mul, mul-comm, mul-assoc, mul-right-comm, zero-lt-suc, le-trans, le-of-eq, le-of-lt, mul-pos, mul-le-mul-right, suc-mul, div-add-mod', div-lt-iff-lt-mul, le-refl, zero-add}
+use Prim.Native.Nat.{ℕ, suc, suc-le-suc, _+_, _-_, _*_, _/_, _%_, _^_, _≤_, _<_, zero-le}
+use native.Mathlib.Nat.{div-eq-of-lt, div-le-self, zero-mul, lt-of-lt-of-le, mul-one, one-mul, mul-assoc, zero-lt-suc, le-trans, le-of-eq, le-of-lt, mul-pos, mul-le-mul-right, div-lt-iff-lt-mul, le-refl}
 use native.Mathlib.Decide.{ℕ-discrete}
-use native.Mathlib.Numerals.{add-one}
 use native.Mathlib.Omega.{arith}
 use mathlib.Core.Bool.{Bool, true, false, not, _&&_, cond, true≢false}
 use lib.IntN.{ℤ, pos, negsuc, natAbs, _-ℤ_}
-use lib.Dec.{T, ltb, ltb→lt, lt→ltb, nltb→le, lit≤, lit<}
+use lib.Dec.{T, ltb, ltb→lt, lt→ltb, lit≤, lit<}
 use lib.Pow.{pow-mono}
 use lib.Ieee.{Float, nan, inf, fin, binary64, up, down, unlike, round, sum, add, lt}
-use lib.Ieee.Fits.{up-pos, down-pos}
+use lib.Ieee.Fits.{down-pos}
 use lib.Ieee.Scale.{round-same, finite}
 use borrow.Author.Tests.{le-ltb}
-use Rattle.exact.specs.Rounded.{_⊕_, _⊖_, _⊘_, num, half}
+use Rattle.exact.specs.Rounded.{_⊕_, _⊖_, _⊘_, half}
 use Rattle.exact.specs.Whole.{W, signed, Is}
 use Rattle.exact.specs.Floor.{floorF}
 use Rattle.exact.specs.Within.{Within}

@@ -13,7 +13,7 @@ pub mod Weights
 pub mod Withins
 pub mod Modulo
 pub mod Casts
-pub mod Parts
 pub mod Ranges
 pub mod Rounds
 pub mod Above
+pub mod Nans

@@ -1,12 +1,12 @@
 -- `Is` at natural numbers and at their negatives, with the numbers in ℕ, where arithmetic is decided.
 use mathlib.Core.Path.{_≡_, refl, sym, ap, _∙_, subst}
 use mathlib.Core.Logic.{inl, inr}
-use Prim.Native.Nat.{ℕ, zero, suc, _+_, _-_, _*_, _^_, _≤_, _<_}
+use Prim.Native.Nat.{ℕ, zero, suc, _+_, _-_, _*_, _^_, _≤_}
 use native.Mathlib.Nat.{le-trans, sub-le, eq-or-lt-of-le}
 use native.Mathlib.Omega.{arith}
-use mathlib.Core.Bool.{Bool, true, false}
-use lib.IntN.{ℤ, pos, negsuc, negℤ, natAbs, _+ℤ_, _-ℤ_, +ℤ-comm, negℤ-negℤ}
-use lib.Signed.{ltZ, leZ}
+use mathlib.Core.Bool.{true, false}
+use lib.IntN.{ℤ, pos, negℤ, natAbs, _+ℤ_, _-ℤ_, +ℤ-comm, negℤ-negℤ}
+use lib.Signed.{leZ}
 use lib.Dec.{ltb, leb, lit≤, leb·zero, leb·suc-zero, leb·suc-suc}
 use lib.Ieee.{Float, neg, lt, le}
 use Rattle.exact.specs.Rounded.{_⊕_, _⊖_, _⊗_, num}

@@ -8,13 +8,12 @@ use native.Mathlib.Decide.{ℕ-discrete}
 use native.Mathlib.Omega.{arith}
 use mathlib.Core.Bool.{Bool, true, false, _||_}
 use lib.IntN.{ℤ, pos}
-use lib.Dec.{T, eqb, eqb→eq, lt→ltb}
-use lib.Ieee.{Float, nan, inf, fin, up, down, below, level, lt, le, toUnsigned}
+use lib.Dec.{T, eqb, eqb→eq}
+use lib.Ieee.{Float, nan, inf, fin, up, down, below, level, le}
 use lib.Ieee.Exact.{HasValue}
 use lib.Ieee.Fits.{down-pos, and-l}
 use Rattle.exact.specs.Whole.{W, Is}
 use Rattle.exact.specs.Floor.{floorF}
-use Rattle.exact.specs.Within.{Within}
 use Rattle.exact.proofs.Tests.{le-of-level}
 use Rattle.exact.proofs.Value.{le-val}
 use Rattle.exact.proofs.Whole.{W-val}
@@ -51,13 +50,6 @@ le-nan (fin u m e) s n v h = h
 -- a negative sign, and not below 0: a zero
 nought : (m : ℕ) (e : ℤ) → T (level false (0 * down e) true (m * up e * 1)) → m * up e ≡ 0
 nought m e t = sym (mul-one (m * up e)) ∙ sym (eqb→eq (0 * down e) (m * up e * 1) (and-l (eqb (0 * down e) (m * up e * 1)) (eqb (0 * down e) 0) t)) ∙ zero-mul (down e)
-
-pub between-of-within : (x : Float) {k : ℕ} → Within k x → T (le (fin false 0 (pos 0)) x) → Between x (2 ^ k)
-unfolding le
-between-of-within nan w h = w .bound
-between-of-within (inf s) w h = w .bound
-between-of-within (fin true m e) w h = nought m e h
-between-of-within (fin false m e) w h = w .bound
 
 -- by any two floats that are the numbers 0 and n
 pub between : (x : Float) (n : ℕ) → n ≤ 2 ^ 53 → T (le (W (pos 0)) x) → T (le x (W (pos n))) → Between x n
@@ -100,18 +92,3 @@ floor-between x n N = natural-between floorF floor-whole x n broken
 -- ---- its cast by `truncating_f64_to_u64`
 least : (c n : ℕ) → c ≤ n → min c (2 ^ 64 - 1) ≤ n
 least c n h = omega arith
-
-pub unsigned-between : (x : Float) (n : ℕ) → Between x n → toUnsigned 64 x ≤ n
-unfolding toUnsigned
-unsigned-between nan n h = absurd h
-unsigned-between (inf s) n h = absurd h
-unsigned-between (fin true m e) n h = zero-le
-unsigned-between (fin false m e) n h = least (m * up e / down e) n (cut-at-most (m * up e) (down e) n (down-pos e) h)
-
--- what that function asks
-pub unsigned-between-asks : (x : Float) (n : ℕ) → n ≤ 2 ^ 53 → Between x n → T (lt (fin true 1 (pos 0)) x) × T (lt x (fin false 1 (pos 64)))
-unfolding lt
-unsigned-between-asks nan n N h = absurd h
-unsigned-between-asks (inf s) n N h = absurd h
-unsigned-between-asks (fin true m e) n N h = (omega (arith, lt→ltb, down-pos e), omega (arith, lt→ltb, down-pos e))
-unsigned-between-asks (fin false m e) n N h = (omega (arith, lt→ltb, down-pos e), omega (arith, lt→ltb, down-pos e, native.Mathlib.Nat.mul-le-mul-right (down e) N))

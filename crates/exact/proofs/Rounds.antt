@@ -11,7 +11,7 @@ use mathlib.Core.Bool.{Bool, true, false, not, cond, false≢true, Bool·not-not
 use lib.IntN.{ℤ, pos, negsuc}
 use lib.Dec.{T, isLe, isEq, ltb, eqb, leb→le, le→leb, eqb→eq, nltb→le, ltb→lt, not-T, lit≤}
 use lib.Pow.{pow-mono}
-use lib.Ieee.{Float, nan, inf, fin, binary64, up, down, nearest, round, sum, neg, add, mul, div, lt, eq, le, fits, ofInt}
+use lib.Ieee.{Float, nan, inf, fin, binary64, up, down, nearest, round, sum, neg, add, mul, div, lt, eq, fits, ofInt}
 use lib.Ieee.Exact.{HasValue}
 use lib.Ieee.Fits.{down-pos, eq→eqb, nearest-le}
 use lib.Ieee.Nearest.{closest}
@@ -20,16 +20,15 @@ use Rattle.exact.specs.Rounded.{half}
 use Rattle.exact.specs.Whole.{W, Is}
 use Rattle.exact.specs.Floor.{floorF}
 use Rattle.exact.specs.Round.{roundTiesEvenF, NotBelowZero}
-use Rattle.exact.specs.Within.{Within}
 use Rattle.exact.proofs.Value.{is-true, add-val, lt-val}
 use Rattle.exact.proofs.Whole.{W-val, add-W, mul-W-nat}
 use Rattle.exact.proofs.Is.{round-is}
 use Rattle.exact.proofs.Bounds.{round-neg}
-use Rattle.exact.proofs.Floors.{floor-whole, floor-broken, broken-bounded, cut-whole, whole-kept, cut-less}
+use Rattle.exact.proofs.Floors.{floor-whole, floor-broken, broken-bounded, cut-whole, cut-less}
 use Rattle.exact.proofs.Quotients.{dyadic, floor-div-W}
 use Rattle.exact.proofs.Unique.{fits-says}
 use Rattle.exact.proofs.Weights.{eq-own}
-use Rattle.exact.proofs.Ranges.{Between, between-of-within, natural-between}
+use Rattle.exact.proofs.Ranges.{Between, natural-between}
 
 -- ---- `nearest`, by how twice the remainder compares with the divisor
 nearest-lower : (q a b : ℕ) → a < b → nearest q (compare a b) ≡ q
@@ -203,9 +202,6 @@ pub nearest-steps : (x f : Float) {t u v : Bool} → T (fits binary64 x) → Not
 nearest-steps x f F p e h k l = (λ i. choose (sym h i) (sym k i) (sym l i) x f) ∙ ap (λ (y : Float). steps x y) e ∙ steps-are x F p
 
 -- ---- whole numbers, and numbers from 0 to n
-pub rounded-is : {x : Float} {z : ℤ} → Is x z → roundTiesEvenF x ≡ x
-rounded-is = whole-kept roundTiesEvenF rounded-whole
-
 pub round-between : (x : Float) (n : ℕ) → n ≤ 2 ^ 53 → Between x n → (k : ℕ) × (k ≤ n) × Is (roundTiesEvenF x) (pos k)
 round-between x n N = natural-between roundTiesEvenF rounded-whole x n broken
   where
@@ -214,7 +210,3 @@ round-between x n N = natural-between roundTiesEvenF rounded-whole x n broken
         let q = closest (m * up e) (down e) in
         let l : q ≤ n = le-trans (nearest-le (m * up e / down e) (compare (m * up e % down e * 2) (down e))) (cut-less (m * up e) (down e) n b h) in
         (q, l, subst (λ (y : Float). Is y (pos q)) (sym (rounded-broken false m e b)) (round-is false q (pos q) refl (le-trans l N)))
-
--- the same by a power of 2 and a test
-pub round-natural : (x : Float) {k : ℕ} → k ≤ 53 → Within k x → T (le (fin false 0 (pos 0)) x) → (n : ℕ) × (n ≤ 2 ^ k) × Is (roundTiesEvenF x) (pos n)
-round-natural x {k} K w h = round-between x (2 ^ k) (pow-mono K) (between-of-within x w h)

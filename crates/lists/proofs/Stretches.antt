@@ -1,5 +1,5 @@
 -- A list whose first places are filled by a rule: one store more, and one lent stretch more.
-use Prim.Native.Nat.{ℕ, zero, suc, _+_, _*_, _-_, _≤_, _<_}
+use Prim.Native.Nat.{ℕ, _+_, _*_, _-_, _≤_, _<_}
 use mathlib.Core.Path.{_≡_, refl, ap, sym, _∙_, subst}
 use mathlib.Core.Logic.{dite, ⊎-elim}
 use native.Mathlib.Decide.{decLt}

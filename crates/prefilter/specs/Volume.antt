@@ -5,7 +5,7 @@ use mathlib.Core.Path.{_≡_}
 use mathlib.Core.Bool.{cond}
 use lib.Dec.{eqb}
 use lib.ListN.{length, getD}
-use lib.Ieee.{Float, nan}
+use lib.Ieee.{Float}
 use Rattle.border.specs.declared.BorderMode.{BorderMode}
 use Rattle.lists.specs.Tabulate.{tabulate}
 use Rattle.poles.specs.Poles.{polesOf, gainOf}

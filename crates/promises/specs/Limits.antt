@@ -1,5 +1,5 @@
 -- "Both sides: order 5 taken, 6 refused; axis 2 and 4,096 taken, 1 and 4,097 refused; shift 1,048,575.5 taken, 1,048,576 refused; size 2^100 taken." And both sides of every other limit, as one table.
-use Prim.Native.Nat.{ℕ, _+_, _^_}
+use Prim.Native.Nat.{_+_, _^_}
 use mathlib.Core.Bool.{Bool, true, false, not}
 use mathlib.Core.List.{List, [], _∷_}
 use lib.Ieee.{Float, nan, inf, neg, binary64, ofBits}

@@ -1,5 +1,5 @@
 -- What follows where nothing is refused: the axes of the request can be reached, and the buffers have their lengths.
-use Prim.Native.Nat.{ℕ, _+_, _*_, _^_, _≤_, _<_}
+use Prim.Native.Nat.{ℕ, _*_, _^_, _≤_, _<_}
 use native.Mathlib.Omega.{arith}
 use mathlib.Core.Path.{_≡_, refl, sym, ap, _∙_}
 use mathlib.Core.Bool.{Bool, true, false, not, _||_, true≢false}
@@ -24,7 +24,7 @@ use Rattle.request.specs.declared.refusal.Verdict.the-variants.{Passed, Refused
 use Rattle.request.specs.Sizes.{needed, padding, zoomDims, shiftAxes, zoomAxes, Lengths, Zoomed}
 use Rattle.request.specs.Refusals.{first, wrong, badShift, badFactors, shiftChecks, zoomChecks}
 use Rattle.voxels.specs.Table.{Reaches}
-use Rattle.resample.specs.Call.{Admitted, Passes, callOf, callBy, success}
+use Rattle.resample.specs.Call.{Passes, callOf, callBy, success}
 use Rattle.request.proofs.Refusing.{all-clear}
 use Rattle.request.proofs.Requests.{none-at, or-false, not-both, pad-most, good-lengths, good-zooms}
 

@@ -4,7 +4,7 @@ use mathlib.Core.Path.{_≡_}
 use mathlib.Core.Bool.{cond}
 use mathlib.Core.List.{List, _++_}
 use lib.Dec.{eqb, ltb}
-use lib.ListN.{length, getD, drop}
+use lib.ListN.{length, drop}
 use lib.Ieee.{Float}
 use Rattle.prefilter.specs.Edge.{padded}
 use Rattle.prefilter.specs.Volume.{filterAxis, filterVolume, countOf}

@@ -1,5 +1,5 @@
 -- The values: the places of a row, written in blocks that may reach past its end; and the volume by the table and the flags of its last axis.
-use Prim.Native.Nat.{ℕ, zero, suc, _+_, _*_, _/_, _%_, _≤_, _<_}
+use Prim.Native.Nat.{ℕ, zero, suc, _+_, _*_, _%_, _≤_, _<_}
 use native.Mathlib.Nat.{add-zero, eq-or-lt-of-le, mod-lt, mul-le-mul-right}
 use native.Mathlib.Omega.{arith}
 use mathlib.Core.Path.{_≡_, refl, sym, ap, _∙_, subst}
@@ -16,9 +16,8 @@ use Rattle.lists.specs.Tabulate.{tabulate, Filled}
 use Rattle.lists.proofs.Tabulated.{getD-tabulate, tabulate-same}
 use Rattle.border.specs.declared.BorderMode.{BorderMode}
 use Rattle.axis.specs.declared.coordinate.Axis.{Axis}
-use Rattle.axis.specs.declared.taps.Taps.{Taps}
 use Rattle.axis.specs.Point.{pointAt, Reached}
-use Rattle.voxels.specs.Sum.{Tap, sumX, sumY, sumZ, sumAt}
+use Rattle.voxels.specs.Sum.{Tap, sumY, sumZ, sumAt}
 use Rattle.voxels.specs.declared.sum.Four.{Four}
 use Rattle.voxels.specs.Lent.{column, lane, number, Planes}
 use Rattle.voxels.specs.Table.{Tabled}

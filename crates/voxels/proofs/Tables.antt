@@ -1,13 +1,13 @@
 -- The table of the last axis: one column more, and that each of its places names one of the row.
-use Prim.Native.Nat.{ℕ, zero, suc, _+_, _*_, _/_, _%_, _≤_, _<_}
-use native.Mathlib.Nat.{eq-or-lt-of-le, div-add-mod', not-suc-le-zero, lt-of-lt-of-le}
+use Prim.Native.Nat.{ℕ, _+_, _*_, _/_, _%_, _≤_, _<_}
+use native.Mathlib.Nat.{eq-or-lt-of-le, not-suc-le-zero}
 use native.Mathlib.Decide.{decLt, ℕ-discrete}
 use native.Mathlib.Omega.{arith}
 use mathlib.Core.Path.{_≡_, refl, sym, ap, _∙_, subst}
 use mathlib.Core.Logic.{dite, inl, inr}
 use mathlib.Core.Bool.{Bool, true, false, _&&_, cond}
 use mathlib.Core.List.{List}
-use lib.Dec.{T, leb, eqb, lit≤}
+use lib.Dec.{T, leb, eqb}
 use lib.ListN.{length, getD, set, replicate, length-set, length-replicate, getD-replicate, List·getD-eq-default}
 use lib.Seq.{getD-set-same, getD-set-other}
 use lib.Ieee.{Float, nan, neg, ofInt}
@@ -27,7 +27,6 @@ use Rattle.axis.specs.Point.{empty, neighbours, keptPoint, pointAt, Reached}
 use Rattle.axis.proofs.Reaches.{settled-within}
 use Rattle.axis.proofs.Points.{placeOf}
 use Rattle.axis.proofs.Inside.{index-inside}
-use Rattle.voxels.specs.Lent.{Inside}
 use Rattle.voxels.specs.Table.{Tabled, Column}
 
 -- ---- a column, one place more

@@ -1,6 +1,6 @@
 -- "At order 0 the one voxel at the rounded index is copied. Else start at 0.0 and add voxel times (x weight times (y weight times z weight)). A voxel with a dropped axis takes the fill in Constant, else 0.0."
 use Prim.Native.Nat.{ℕ, _+_, _*_}
-use mathlib.Core.Bool.{Bool, _&&_, cond}
+use mathlib.Core.Bool.{_&&_, cond}
 use mathlib.Core.List.{List}
 use lib.Dec.{eqb}
 use lib.ListN.{getD}

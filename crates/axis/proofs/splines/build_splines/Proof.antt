@@ -1,5 +1,4 @@
 -- `axis::splines::build_splines` meets its contract: each arm has the weights of its order.
-use Prim.Native.Nat.{_≤_}
 use mathlib.Core.Path.{_≡_, refl}
 use native.Mathlib.Omega.{arith}
 use lib.Ieee.{ofBits, ofInt}

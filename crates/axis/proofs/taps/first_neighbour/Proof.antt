@@ -1,5 +1,4 @@
 -- `axis::taps::first_neighbour` meets its contract.
-use lib.Ieee.{Float}
 use Rattle.exact.specs.Rounded.{_⊖_}
 use Rattle.axis.specs.Neighbours.{firstNeighbour}
 use borrow.Author.Needs.{needs}

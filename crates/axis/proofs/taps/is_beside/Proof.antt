@@ -1,6 +1,6 @@
 -- `axis::taps::is_beside` meets its contract.
 use mathlib.Core.Path.{_∙_}
-use lib.Ieee.{ofBits, ofInt, neg}
+use lib.Ieee.{ofBits, ofInt}
 use Rattle.axis.proofs.Points.{beside-by, dropped-by}
 use borrow.Author.Needs.{needs}
 use Rattle.axis.proofs.taps.is_beside.Statement.{statement}

@@ -1,7 +1,7 @@
 -- `axis::taps::kept_taps` meets its contract.
-use mathlib.Core.Path.{_≡_, sym, _∙_, subst}
+use mathlib.Core.Path.{_≡_, sym, _∙_}
 use mathlib.Core.Logic.{⊎-elim}
-use mathlib.Core.Bool.{Bool, false, _&&_}
+use mathlib.Core.Bool.{false, _&&_}
 use lib.Dec.{eqb}
 use lib.Ieee.{ofBits, ofInt}
 use Rattle.axis.specs.Neighbours.{outside}

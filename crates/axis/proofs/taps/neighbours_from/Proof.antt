@@ -1,11 +1,9 @@
 -- `axis::taps::neighbours_from` meets its contract: the places filled so far hold the neighbours, and the rest 0.
 use Prim.Native.Nat.{_+_, _-_, _≤_}
-use mathlib.Core.Path.{_≡_, sym, _∙_, ap, subst}
-use mathlib.Core.Bool.{Bool, cond}
+use mathlib.Core.Path.{_≡_, _∙_, subst}
+use mathlib.Core.Bool.{Bool}
 use native.Mathlib.Omega.{arith}
-use borrow.Author.Needs.{needs}
 use borrow.Author.Tests.{le-leb}
-use Rattle.axis.specs.Neighbours.{outside, neighbourIndex}
 use Rattle.axis.proofs.Points.{placeOf, Placed, placed-none, placed-more, placed-all}
 use Rattle.axis.proofs.taps.neighbours_from.Statement.{statement}
 use Rattle.axis.proofs.taps.neighbours_from.Tie as tie

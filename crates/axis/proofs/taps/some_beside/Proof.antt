@@ -1,5 +1,5 @@
 -- `axis::taps::some_beside` meets its contract: no index passed so far lies beside the axis.
-use Prim.Native.Nat.{ℕ, _+_, _-_, _≤_, _<_}
+use Prim.Native.Nat.{ℕ, _-_, _≤_, _<_}
 use mathlib.Core.Path.{_≡_, sym, _∙_}
 use mathlib.Core.Bool.{true, true≢false}
 use native.Mathlib.Nat.{not-suc-le-zero}

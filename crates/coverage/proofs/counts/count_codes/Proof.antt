@@ -1,8 +1,7 @@
 -- `coverage::counts::count_codes` meets its contract: the counts so far are those of the codes passed.
-use Prim.Native.Nat.{_+_, _-_, _≤_}
-use mathlib.Core.Path.{_≡_, refl, sym, ap, _∙_}
+use Prim.Native.Nat.{_-_, _≤_}
+use mathlib.Core.Path.{_≡_, sym, ap, _∙_}
 use native.Mathlib.Omega.{arith}
-use borrow.Author.Needs.{needs}
 use lib.ListN.{length, getD, take}
 use Rattle.coverage.specs.declared.counts.Counts.{Counts}
 use lib.Seq.{take-all, length-take-le}

@@ -1,12 +1,11 @@
 -- `coverage::cover::cover_planes` meets its contract: the planes so far are written.
-use Prim.Native.Nat.{ℕ, _+_, _*_, _-_, _^_, _≤_, _<_}
-use mathlib.Core.Path.{_≡_, _∙_, sym, ap, subst}
+use Prim.Native.Nat.{ℕ, _+_, _*_, _-_, _≤_}
+use mathlib.Core.Path.{_≡_, _∙_, sym, subst}
 use native.Mathlib.Nat.{mul-le-mul}
 use native.Mathlib.Omega.{arith}
 use lib.ListN.{length, take, drop}
-use Rattle.lists.specs.Tabulate.{tabulate}
 use Rattle.lists.proofs.Stretches.{next, part-length, Written, none-written, stretch-within, next-written, all-written}
-use Rattle.coverage.specs.Coverage.{codeInPlane, codeByFlags}
+use Rattle.coverage.specs.Coverage.{codeByFlags}
 use Rattle.coverage.proofs.Covering.{plane-filled}
 use Rattle.coverage.proofs.cover.cover_planes.Statement.{statement}
 use Rattle.coverage.proofs.cover.cover_planes.Tie as tie

@@ -1,5 +1,5 @@
 -- `coverage::cover::cover_row` meets its contract: the codes so far are those of the places passed.
-use Prim.Native.Nat.{ℕ, _+_, _-_, _≤_}
+use Prim.Native.Nat.{ℕ, _-_, _≤_}
 use mathlib.Core.Path.{_≡_, _∙_, ap}
 use mathlib.Core.Bool.{false, _&&_, cond}
 use native.Mathlib.Nat.{not-suc-le-zero}
@@ -8,7 +8,6 @@ use lib.ListN.{length, getD, length-set}
 use Rattle.lists.specs.Tabulate.{tabulate, Filled}
 use Rattle.lists.proofs.Tabulated.{is-tabulate}
 use Rattle.lists.proofs.Stretches.{put}
-use Rattle.coverage.specs.Coverage.{codeBy}
 use Rattle.coverage.proofs.cover.cover_row.Statement.{statement}
 use Rattle.coverage.proofs.cover.cover_row.Tie as tie
 

@@ -1,5 +1,5 @@
 -- `leaves::replay::has_bits` is safe: a float that equals itself is no NaN.
-use Rattle.leaves.proofs.Patterns.{no-nan}
+use Rattle.exact.proofs.Nans.{no-nan}
 use borrow.Author.Needs.{needs}
 use Rattle.leaves.proofs.replay.has_bits.Statement.{statement}
 use Rattle.leaves.proofs.replay.has_bits.Tie as tie

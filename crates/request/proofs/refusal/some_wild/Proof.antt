@@ -1,5 +1,5 @@
 -- `request::refusal::some_wild` meets its contract: no voxel passed so far is wild.
-use Prim.Native.Nat.{ℕ, _+_, _-_, _≤_, _<_}
+use Prim.Native.Nat.{ℕ, _-_, _≤_, _<_}
 use mathlib.Core.Path.{_≡_, sym, _∙_}
 use mathlib.Core.Bool.{false}
 use native.Mathlib.Nat.{not-suc-le-zero}

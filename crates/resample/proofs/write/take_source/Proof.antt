@@ -1,7 +1,5 @@
 -- `resample::write::take_source` meets its contract.
-use mathlib.Core.Path.{_≡_, _∙_, sym}
-use native.Mathlib.Omega.{arith}
-use Rattle.prefilter.specs.Volume.{Sized}
+use mathlib.Core.Path.{_∙_, sym}
 use Rattle.resample.proofs.Preparing.{plain-count, source-plain, padded-count, source-padded, sized}
 use borrow.Author.Needs.{needs}
 use Rattle.resample.proofs.write.take_source.Statement.{statement}

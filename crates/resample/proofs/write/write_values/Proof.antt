@@ -1,5 +1,5 @@
 -- `resample::write::write_values` meets its contract.
-use Prim.Native.Nat.{ℕ, _-_}
+use Prim.Native.Nat.{_-_}
 use mathlib.Core.Path.{_≡_, _∙_, sym}
 use native.Mathlib.Omega.{arith}
 use Rattle.lists.proofs.Stretches.{part-length}

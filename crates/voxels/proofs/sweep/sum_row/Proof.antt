@@ -1,11 +1,11 @@
 -- `voxels::sweep::sum_row` meets its contract: the blocks so far are written.
-use Prim.Native.Nat.{ℕ, _+_, _-_, _≤_}
+use Prim.Native.Nat.{ℕ, _+_, _-_}
 use mathlib.Core.Path.{_≡_, _∙_, refl, subst, sym}
 use mathlib.Core.Bool.{false, cond}
 use mathlib.Core.List.{List}
 use native.Mathlib.Nat.{not-suc-le-zero}
 use native.Mathlib.Omega.{arith}
-use lib.ListN.{length, getD, length-set}
+use lib.ListN.{length, getD}
 use lib.Ieee.{Float, nan}
 use Rattle.lists.proofs.Tabulated.{is-tabulate}
 use Rattle.voxels.specs.Sum.{sumAt}

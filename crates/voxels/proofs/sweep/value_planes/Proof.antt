@@ -5,7 +5,6 @@ use native.Mathlib.Nat.{mul-le-mul}
 use native.Mathlib.Omega.{arith}
 use lib.ListN.{length, take, drop}
 use lib.Ieee.{nan}
-use Rattle.lists.specs.Tabulate.{tabulate}
 use Rattle.lists.proofs.Stretches.{next, part-length, Written, none-written, stretch-within, next-written, all-written}
 use Rattle.axis.specs.declared.taps.Taps.{Taps}
 use Rattle.voxels.specs.Voxel.{tapOf}

@@ -1,5 +1,5 @@
 -- `voxels::table::fill_table` meets its contract: the columns so far are those of the indices passed.
-use Prim.Native.Nat.{_+_, _-_, _≤_}
+use Prim.Native.Nat.{_-_, _≤_}
 use mathlib.Core.Path.{_≡_, _∙_, sym}
 use native.Mathlib.Omega.{arith}
 use Rattle.voxels.specs.Table.{Tabled}

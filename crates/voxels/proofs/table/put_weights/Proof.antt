@@ -1,9 +1,8 @@
 -- `voxels::table::put_weights` meets its contract: the first k places of the column are set.
-use Prim.Native.Nat.{_+_, _-_, _≤_}
+use Prim.Native.Nat.{_-_, _≤_}
 use mathlib.Core.Path.{_≡_, _∙_}
 use native.Mathlib.Omega.{arith}
 use borrow.Author.Needs.{needs}
-use lib.ListN.{length-set}
 use lib.Ieee.{nan}
 use Rattle.voxels.specs.Table.{Column}
 use Rattle.voxels.proofs.Tables.{column-none, column-more}

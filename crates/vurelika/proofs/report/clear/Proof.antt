@@ -1,5 +1,4 @@
 -- `vurelika::report::clear` meets its contract.
-use Prim.Native.Nat.{ℕ}
 use mathlib.Core.Path.{ap, _∙_}
 use borrow.Author.Tests.{eq-eqb, ne-eqb}
 use Rattle.coverage.specs.declared.counts.Counts.{Counts}
