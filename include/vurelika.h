@@ -4,7 +4,7 @@
  * A volume of d0 by d1 by d2 voxels is a flat buffer, last index fastest: the voxel x, y, z stands at
  * (x * d1 + y) * d2 + z. Every buffer is the caller's, given as a pointer and its number of places, and
  * is not kept after the call. Buffers must not overlap, and a pointer must be good for its number of
- * places; that is all that a caller has to see to. Any numbers and any lengths are answered: a call
+ * places (a buffer of 0 places may be NULL); that is all that a caller has to see to. Any numbers and any lengths are answered: a call
  * ends in success or in one of the nine refusals below.
  *
  * A call allocates nothing, takes about 400 kB of stack, and uses nothing but what it is given: calls
@@ -15,6 +15,8 @@
 
 #include <stddef.h>
 #include <stdint.h>
+
+#define VURELIKA_VERSION "0.1.0"
 
 #ifdef __cplusplus
 extern "C" {

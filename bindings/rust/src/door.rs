@@ -1,0 +1,197 @@
+//! The library's functions for C (include/vurelika.h), over slices. All that is unsafe is here.
+
+use crate::{BorderMode, Counts, Refusal, Request};
+
+mod c {
+    /// Functions that take what `shift` takes.
+    macro_rules! resamplers {
+        ($($name:ident),*) => {
+            extern "C" {
+                $(pub fn $name(
+                    d0: usize, d1: usize, d2: usize,
+                    f0: f64, f1: f64, f2: f64,
+                    order: usize, prefilter: u32, mode: u32, fill: f64,
+                    input: *const f64, input_len: usize,
+                    output: *mut f64, output_len: usize,
+                    coverage: *mut u8, coverage_len: usize,
+                    work: *mut f64, work_len: usize,
+                    counts: *mut u64, counts_len: usize,
+                ) -> u32;)*
+            }
+        };
+    }
+
+    resamplers!(vurelika_shift, vurelika_zoom);
+
+    extern "C" {
+        pub fn vurelika_spline_filter(
+            d0: usize,
+            d1: usize,
+            d2: usize,
+            order: usize,
+            mode: u32,
+            fill: f64,
+            input: *const f64,
+            input_len: usize,
+            output: *mut f64,
+            output_len: usize,
+        ) -> u32;
+        pub fn vurelika_spline_filter1d(
+            d0: usize,
+            d1: usize,
+            d2: usize,
+            order: usize,
+            axis: usize,
+            mode: u32,
+            fill: f64,
+            input: *const f64,
+            input_len: usize,
+            output: *mut f64,
+            output_len: usize,
+        ) -> u32;
+        pub fn vurelika_zoom_length(length: usize, factor: f64) -> usize;
+        pub fn vurelika_work_count(
+            d0: usize,
+            d1: usize,
+            d2: usize,
+            order: usize,
+            prefilter: u32,
+            mode: u32,
+        ) -> usize;
+    }
+}
+
+/// The functions that resample.
+#[derive(Clone, Copy)]
+pub(crate) enum Entry {
+    Shift,
+    Zoom,
+}
+
+impl Entry {
+    pub(crate) fn call(
+        self,
+        request: &Request,
+        input: &[f64],
+        output: &mut [f64],
+        coverage: &mut [u8],
+        work: &mut [f64],
+    ) -> Result<Counts, Refusal> {
+        let function = match self {
+            Entry::Shift => c::vurelika_shift,
+            Entry::Zoom => c::vurelika_zoom,
+        };
+        let [d0, d1, d2] = request.dims;
+        let [f0, f1, f2] = request.factors;
+        let (mode, fill) = mode_and_fill(request.mode);
+        let mut counts = [0; 3];
+        // SAFETY: each pointer goes with the length of its slice, and Rust's borrows keep the slices
+        // that are written apart from each other and from the input.
+        let status = unsafe {
+            function(
+                d0,
+                d1,
+                d2,
+                f0,
+                f1,
+                f2,
+                request.order,
+                request.prefilter.into(),
+                mode,
+                fill,
+                input.as_ptr(),
+                input.len(),
+                output.as_mut_ptr(),
+                output.len(),
+                coverage.as_mut_ptr(),
+                coverage.len(),
+                work.as_mut_ptr(),
+                work.len(),
+                counts.as_mut_ptr(),
+                counts.len(),
+            )
+        };
+        Refusal::check(status)?;
+        let [computed, filled, defaulted] = counts;
+        Ok(Counts {
+            computed,
+            filled,
+            defaulted,
+        })
+    }
+}
+
+pub(crate) fn spline_filter(
+    request: &Request,
+    input: &[f64],
+    output: &mut [f64],
+) -> Result<(), Refusal> {
+    let [d0, d1, d2] = request.dims;
+    let (mode, fill) = mode_and_fill(request.mode);
+    // SAFETY: as in `Entry::call`.
+    Refusal::check(unsafe {
+        c::vurelika_spline_filter(
+            d0,
+            d1,
+            d2,
+            request.order,
+            mode,
+            fill,
+            input.as_ptr(),
+            input.len(),
+            output.as_mut_ptr(),
+            output.len(),
+        )
+    })
+}
+
+pub(crate) fn spline_filter1d(
+    request: &Request,
+    axis: usize,
+    input: &[f64],
+    output: &mut [f64],
+) -> Result<(), Refusal> {
+    let [d0, d1, d2] = request.dims;
+    let (mode, fill) = mode_and_fill(request.mode);
+    // SAFETY: as in `Entry::call`.
+    Refusal::check(unsafe {
+        c::vurelika_spline_filter1d(
+            d0,
+            d1,
+            d2,
+            request.order,
+            axis,
+            mode,
+            fill,
+            input.as_ptr(),
+            input.len(),
+            output.as_mut_ptr(),
+            output.len(),
+        )
+    })
+}
+
+/// The dimensions that zoom gives; one is 0 where it would refuse them.
+pub(crate) fn zoom_dims(request: &Request) -> [usize; 3] {
+    // SAFETY: the function takes numbers alone.
+    [0, 1, 2].map(|i| unsafe { c::vurelika_zoom_length(request.dims[i], request.factors[i]) })
+}
+
+/// How many places of work shift and zoom need; 0 where they refuse whatever it is.
+pub(crate) fn work_count(request: &Request) -> usize {
+    let [d0, d1, d2] = request.dims;
+    let (mode, _) = mode_and_fill(request.mode);
+    // SAFETY: the function takes numbers alone.
+    unsafe { c::vurelika_work_count(d0, d1, d2, request.order, request.prefilter.into(), mode) }
+}
+
+/// The number of a mode, and a fill, which is read in Constant alone.
+fn mode_and_fill(mode: BorderMode) -> (u32, f64) {
+    match mode {
+        BorderMode::Constant(fill) => (0, fill),
+        BorderMode::Mirror => (1, 0.0),
+        BorderMode::Nearest => (2, 0.0),
+        BorderMode::Reflect => (3, 0.0),
+        BorderMode::Wrap => (4, 0.0),
+    }
+}

@@ -1,0 +1,340 @@
+//! Resampling of volumes of `f64` on three axes, in which each output voxel is marked as computed or
+//! filled: a safe layer over the proved library `libvurelika.a`.
+//!
+//! A volume is a flat slice, last index fastest. A call ends in success or in one of nine
+//! [refusals](Refusal), whatever numbers and slices it is given; it does not panic. It takes about
+//! 400 kB of stack.
+//!
+//! ```
+//! use vurelika::{shift, BorderMode, Request, COMPUTED, FILLED};
+//!
+//! let lanes = [10.0, 20.0, 30.0, 40.0].repeat(4);
+//! let request = Request {
+//!     dims: [2, 2, 4],
+//!     factors: [0.0, 0.0, 1.0],
+//!     order: 1,
+//!     prefilter: true,
+//!     mode: BorderMode::Constant(-1.0),
+//! };
+//! let moved = shift(&request, &lanes)?;
+//! assert_eq!(moved.voxels[..4], [-1.0, 10.0, 20.0, 30.0]);
+//! assert_eq!(moved.coverage[..4], [FILLED, COMPUTED, COMPUTED, COMPUTED]);
+//! assert_eq!((moved.counts.computed, moved.counts.filled), (12, 4));
+//! # Ok::<(), vurelika::Refusal>(())
+//! ```
+
+mod door;
+mod refusal;
+
+use door::Entry;
+pub use refusal::Refusal;
+
+/// The code of a voxel that was computed from input voxels.
+pub const COMPUTED: u8 = 0;
+
+/// The code of a voxel outside, in mode Constant: it holds the fill, bit for bit.
+pub const FILLED: u8 = 1;
+
+/// The code of a voxel outside, in another mode: it holds 0.0.
+pub const DEFAULTED: u8 = 2;
+
+/// What a coordinate outside the volume stands for.
+#[derive(Clone, Copy, Debug, PartialEq)]
+pub enum BorderMode {
+    /// Nothing: such a voxel takes this fill.
+    Constant(f64),
+    /// The volume mirrored about its end voxels.
+    Mirror,
+    /// The edge voxel.
+    Nearest,
+    /// The volume mirrored about its outer faces.
+    Reflect,
+    /// The volume again, first and last voxel as one.
+    Wrap,
+}
+
+/// What is asked for.
+#[derive(Clone, Copy, Debug, PartialEq)]
+pub struct Request {
+    /// The lengths of the input's axes, each 2 to 4,096.
+    pub dims: [usize; 3],
+    /// A shift or a zoom factor for each axis. The filters do not read them.
+    pub factors: [f64; 3],
+    /// The order of the spline, 0 (the nearest voxel) to 5.
+    pub order: usize,
+    /// Whether orders 2 to 5 filter the voxels first. The filters do not read it.
+    pub prefilter: bool,
+    /// What stands outside the volume.
+    pub mode: BorderMode,
+}
+
+impl Request {
+    /// What [`shift_into`] has to be lent; or the refusal that it would give whatever it is lent,
+    /// one of 1 to 6.
+    pub fn shift_sizes(&self) -> Result<Sizes, Refusal> {
+        self.sizes(Entry::Shift)
+    }
+
+    /// What [`zoom_into`] has to be lent; or the refusal that it would give whatever it is lent,
+    /// one of 1 to 6.
+    ///
+    /// ```
+    /// # use vurelika::{BorderMode, Refusal, Request};
+    /// let mut request = Request {
+    ///     dims: [2, 2, 4],
+    ///     factors: [1.0, 1.0, 1.75],
+    ///     order: 3,
+    ///     prefilter: true,
+    ///     mode: BorderMode::Mirror,
+    /// };
+    /// let sizes = request.zoom_sizes()?;
+    /// assert_eq!(sizes.dims, [2, 2, 7]);
+    /// assert_eq!((sizes.input, sizes.output, sizes.work), (16, 28, 16));
+    ///
+    /// request.factors[0] = 0.5;
+    /// assert_eq!(request.zoom_sizes(), Err(Refusal::OutputLength));
+    /// # Ok::<(), Refusal>(())
+    /// ```
+    pub fn zoom_sizes(&self) -> Result<Sizes, Refusal> {
+        self.sizes(Entry::Zoom)
+    }
+
+    fn sizes(&self, entry: Entry) -> Result<Sizes, Refusal> {
+        // A call that is lent nothing is refused, at the latest for its buffers. Past that the counts
+        // are known to be small.
+        match entry.call(self, &[], &mut [], &mut [], &mut []) {
+            Err(refusal) if refusal != Refusal::Buffer => return Err(refusal),
+            _ => (),
+        }
+        let dims = match entry {
+            Entry::Shift => self.dims,
+            Entry::Zoom => door::zoom_dims(self),
+        };
+        Ok(Sizes {
+            dims,
+            input: self.dims.iter().product(),
+            output: dims.iter().product(),
+            work: door::work_count(self),
+        })
+    }
+}
+
+/// How much a call is lent.
+#[derive(Clone, Copy, Debug, PartialEq, Eq)]
+pub struct Sizes {
+    /// The lengths of the output's axes.
+    pub dims: [usize; 3],
+    /// Places of the input.
+    pub input: usize,
+    /// Places of the output and of the coverage.
+    pub output: usize,
+    /// Places of work, at least.
+    pub work: usize,
+}
+
+/// How many voxels bear each code; together as many as the output has.
+#[derive(Clone, Copy, Debug, PartialEq, Eq)]
+pub struct Counts {
+    /// Voxels with the code [`COMPUTED`].
+    pub computed: u64,
+    /// Voxels with the code [`FILLED`].
+    pub filled: u64,
+    /// Voxels with the code [`DEFAULTED`].
+    pub defaulted: u64,
+}
+
+/// A volume that came out.
+#[derive(Clone, Debug, PartialEq)]
+pub struct Resampled {
+    /// The lengths of its axes.
+    pub dims: [usize; 3],
+    /// Its voxels, last index fastest.
+    pub voxels: Vec<f64>,
+    /// The code of each voxel.
+    pub coverage: Vec<u8>,
+    /// How many voxels bear each code.
+    pub counts: Counts,
+}
+
+/// Shifts a volume: the output voxel at index i of an axis is the input at i less the axis's factor.
+///
+/// ```
+/// # use vurelika::{shift, BorderMode, Refusal, Request};
+/// let request = Request {
+///     dims: [2, 2, 4],
+///     factors: [0.0, 0.0, -0.5],
+///     order: 0,
+///     prefilter: false,
+///     mode: BorderMode::Constant(-1.0),
+/// };
+/// let refusal = shift(&request, &[0.0; 16]).unwrap_err();
+/// assert_eq!(refusal, Refusal::Beside);
+/// assert_eq!(
+///     refusal.to_string(),
+///     "refusal 9: at order 0 a coordinate is kept, but its nearest voxel lies outside",
+/// );
+/// ```
+pub fn shift(request: &Request, input: &[f64]) -> Result<Resampled, Refusal> {
+    resample(Entry::Shift, request, input)
+}
+
+/// Zooms a volume by the factors.
+///
+/// ```
+/// # use vurelika::{zoom, BorderMode, Request};
+/// let request = Request {
+///     dims: [2, 2, 4],
+///     factors: [1.0, 1.0, 1.75],
+///     order: 1,
+///     prefilter: false,
+///     mode: BorderMode::Mirror,
+/// };
+/// let finer = zoom(&request, &[10.0, 20.0, 30.0, 40.0].repeat(4))?;
+/// assert_eq!(finer.dims, [2, 2, 7]);
+/// assert_eq!(finer.voxels[..7], [10.0, 15.0, 20.0, 25.0, 30.0, 35.0, 40.0]);
+/// # Ok::<(), vurelika::Refusal>(())
+/// ```
+pub fn zoom(request: &Request, input: &[f64]) -> Result<Resampled, Refusal> {
+    resample(Entry::Zoom, request, input)
+}
+
+fn resample(entry: Entry, request: &Request, input: &[f64]) -> Result<Resampled, Refusal> {
+    let sizes = request.sizes(entry)?;
+    if input.len() != sizes.input {
+        return Err(Refusal::Buffer); // before room is made for what would not be written
+    }
+    let mut voxels = vec![0.0; sizes.output];
+    let mut coverage = vec![0; sizes.output];
+    let mut work = vec![0.0; sizes.work];
+    let counts = entry.call(request, input, &mut voxels, &mut coverage, &mut work)?;
+    Ok(Resampled {
+        dims: sizes.dims,
+        voxels,
+        coverage,
+        counts,
+    })
+}
+
+/// [`shift`] over lent slices, of the lengths that [`Request::shift_sizes`] gives; allocates nothing.
+///
+/// On success `output` and `coverage` are written fully, and `work` begins with the filtered
+/// coefficients. On refusal all three hold what they held.
+///
+/// ```
+/// # use vurelika::{shift_into, BorderMode, Request};
+/// let request = Request {
+///     dims: [2, 2, 4],
+///     factors: [0.0, 0.0, 2.0],
+///     order: 1,
+///     prefilter: true,
+///     mode: BorderMode::Nearest,
+/// };
+/// let (mut output, mut coverage) = ([f64::NAN; 16], [255; 16]);
+/// let input = [10.0, 20.0, 30.0, 40.0].repeat(4);
+/// let counts = shift_into(&request, &input, &mut output, &mut coverage, &mut [])?;
+/// assert_eq!(output[..4], [0.0, 0.0, 10.0, 20.0]);
+/// assert_eq!(coverage[..4], [2, 2, 0, 0]);
+/// assert_eq!(counts.defaulted, 8);
+/// # Ok::<(), vurelika::Refusal>(())
+/// ```
+pub fn shift_into(
+    request: &Request,
+    input: &[f64],
+    output: &mut [f64],
+    coverage: &mut [u8],
+    work: &mut [f64],
+) -> Result<Counts, Refusal> {
+    Entry::Shift.call(request, input, output, coverage, work)
+}
+
+/// [`zoom`] over lent slices, of the lengths that [`Request::zoom_sizes`] gives; all else is as with
+/// [`shift_into`].
+///
+/// ```
+/// # use vurelika::{zoom_into, BorderMode, Request};
+/// let request = Request {
+///     dims: [2, 2, 3],
+///     factors: [1.0, 1.0, 0.5],
+///     order: 2,
+///     prefilter: true,
+///     mode: BorderMode::Mirror,
+/// };
+/// let sizes = request.zoom_sizes()?;
+/// let mut output = vec![f64::NAN; sizes.output];
+/// let mut coverage = vec![255; sizes.output];
+/// let mut work = vec![f64::NAN; sizes.work];
+/// let counts = zoom_into(&request, &[0.0; 12], &mut output, &mut coverage, &mut work)?;
+/// assert_eq!(output, [0.0; 8]);
+/// assert_eq!(counts.computed, 8);
+/// # Ok::<(), vurelika::Refusal>(())
+/// ```
+pub fn zoom_into(
+    request: &Request,
+    input: &[f64],
+    output: &mut [f64],
+    coverage: &mut [u8],
+    work: &mut [f64],
+) -> Result<Counts, Refusal> {
+    Entry::Zoom.call(request, input, output, coverage, work)
+}
+
+/// The spline coefficients of a volume, along all three axes. Orders 2 to 5; never pads.
+///
+/// ```
+/// # use vurelika::{spline_filter, BorderMode, Request};
+/// let request = Request {
+///     dims: [2, 3, 4],
+///     factors: [0.0; 3],
+///     order: 3,
+///     prefilter: false,
+///     mode: BorderMode::Mirror,
+/// };
+/// let coefficients = spline_filter(&request, &[7.0; 24])?;
+/// assert!(coefficients.iter().all(|c| (c - 7.0).abs() < 1e-12));
+/// # Ok::<(), vurelika::Refusal>(())
+/// ```
+pub fn spline_filter(request: &Request, input: &[f64]) -> Result<Vec<f64>, Refusal> {
+    let mut output = vec![0.0; input.len()];
+    spline_filter_into(request, input, &mut output)?;
+    Ok(output)
+}
+
+/// [`spline_filter`] into a lent slice, as long as the input. On refusal it holds what it held.
+pub fn spline_filter_into(
+    request: &Request,
+    input: &[f64],
+    output: &mut [f64],
+) -> Result<(), Refusal> {
+    door::spline_filter(request, input, output)
+}
+
+/// The spline coefficients of a volume along one axis: 0, 1 or 2. Orders 0 and 1 copy the input.
+///
+/// ```
+/// # use vurelika::{spline_filter1d, BorderMode, Refusal, Request};
+/// let request = Request {
+///     dims: [2, 3, 4],
+///     factors: [0.0; 3],
+///     order: 1,
+///     prefilter: false,
+///     mode: BorderMode::Wrap,
+/// };
+/// assert_eq!(spline_filter1d(&request, 2, &[7.0; 24])?, [7.0; 24]);
+/// assert_eq!(spline_filter1d(&request, 3, &[7.0; 24]), Err(Refusal::Axis));
+/// # Ok::<(), Refusal>(())
+/// ```
+pub fn spline_filter1d(request: &Request, axis: usize, input: &[f64]) -> Result<Vec<f64>, Refusal> {
+    let mut output = vec![0.0; input.len()];
+    spline_filter1d_into(request, axis, input, &mut output)?;
+    Ok(output)
+}
+
+/// [`spline_filter1d`] into a lent slice, as long as the input. On refusal it holds what it held.
+pub fn spline_filter1d_into(
+    request: &Request,
+    axis: usize,
+    input: &[f64],
+    output: &mut [f64],
+) -> Result<(), Refusal> {
+    door::spline_filter1d(request, axis, input, output)
+}

@@ -1,0 +1,84 @@
+//! The nine ways to say no.
+
+use std::{error::Error, fmt};
+
+/// Why a call was refused: the first of these that applies, in this order.
+///
+/// A refused call has written nothing to the buffers that it was lent.
+#[derive(Clone, Copy, Debug, PartialEq, Eq, Hash)]
+#[repr(u32)]
+pub enum Refusal {
+    /// The order is above 5; for `spline_filter` also 0 or 1.
+    Order = 1,
+    /// `spline_filter1d` was given an axis above 2.
+    Axis = 2,
+    /// An input axis is shorter than 2 or longer than 4,096.
+    Length = 3,
+    /// A shift is not finite, or its size is 2^20 or more; a zoom factor is not finite, not above 0,
+    /// or above 4,096.
+    Factor = 4,
+    /// `zoom` would give an output axis shorter than 2 or longer than 4,096.
+    OutputLength = 5,
+    /// Input, output or needed work has more than 2^27 places.
+    Count = 6,
+    /// A buffer has the wrong number of places.
+    Buffer = 7,
+    /// The fill or a voxel is not finite, or its size exceeds 2^100.
+    Value = 8,
+    /// At order 0 a coordinate is kept, but its nearest voxel lies outside.
+    Beside = 9,
+}
+
+impl Refusal {
+    /// All nine, in the order in which they are looked for.
+    pub const ALL: [Refusal; 9] = [
+        Refusal::Order,
+        Refusal::Axis,
+        Refusal::Length,
+        Refusal::Factor,
+        Refusal::OutputLength,
+        Refusal::Count,
+        Refusal::Buffer,
+        Refusal::Value,
+        Refusal::Beside,
+    ];
+
+    /// The refusal's number, 1 to 9.
+    ///
+    /// ```
+    /// assert_eq!(vurelika::Refusal::Beside.number(), 9);
+    /// ```
+    pub fn number(self) -> u32 {
+        self as u32
+    }
+
+    /// What the library's answer says: 0 is success.
+    pub(crate) fn check(status: u32) -> Result<(), Refusal> {
+        match status {
+            0 => Ok(()),
+            // The library answers 0 to 9 to each of the five modes.
+            n => Err(Refusal::ALL[n as usize - 1]),
+        }
+    }
+}
+
+impl fmt::Display for Refusal {
+    fn fmt(&self, f: &mut fmt::Formatter<'_>) -> fmt::Result {
+        let why = match self {
+            Refusal::Order => "the order is not one that this function has",
+            Refusal::Axis => "the axis number is above 2",
+            Refusal::Length => "an input axis is shorter than 2 or longer than 4,096",
+            Refusal::Factor => "a shift or a zoom factor is not finite or out of range",
+            Refusal::OutputLength => "an output axis would be shorter than 2 or longer than 4,096",
+            Refusal::Count => "input, output or work would have more than 2^27 places",
+            Refusal::Buffer => "a buffer has the wrong number of places",
+            Refusal::Value => "the fill or a voxel is not finite, or its size exceeds 2^100",
+            Refusal::Beside => {
+                "at order 0 a coordinate is kept, but its nearest voxel lies outside"
+            }
+        };
+        write!(f, "refusal {}: {why}", self.number())
+    }
+}
+
+impl Error for Refusal {}

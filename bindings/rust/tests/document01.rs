@@ -1,0 +1,124 @@
+//! Document 01's numbers to hold to, and the header that the crate repeats.
+
+use vurelika::{
+    shift, spline_filter1d, zoom, BorderMode, Counts, Refusal, Request, Resampled, COMPUTED,
+    DEFAULTED, FILLED,
+};
+
+const LANE: [f64; 4] = [10.0, 20.0, 30.0, 40.0];
+const CONSTANT: BorderMode = BorderMode::Constant(-1.0);
+
+/// A request on the document's volume, 2 by 2 by 4.
+fn request(factors: [f64; 3], order: usize, mode: BorderMode) -> Request {
+    Request {
+        dims: [2, 2, 4],
+        factors,
+        order,
+        prefilter: true,
+        mode,
+    }
+}
+
+fn shift_last(by: f64, order: usize, mode: BorderMode) -> Result<Resampled, Refusal> {
+    shift(&request([0.0, 0.0, by], order, mode), &LANE.repeat(4))
+}
+
+/// Every lane is this one with these codes, and the counts say so.
+fn assert_lanes(resampled: &Resampled, lane: &[f64], codes: &[u8]) {
+    assert_eq!(resampled.dims, [2, 2, lane.len()]);
+    assert_eq!(resampled.voxels, lane.repeat(4));
+    assert_eq!(resampled.coverage, codes.repeat(4));
+    assert_counted(resampled);
+}
+
+fn assert_counted(resampled: &Resampled) {
+    let bearing = |code| resampled.coverage.iter().filter(|&&c| c == code).count() as u64;
+    let counts = Counts {
+        computed: bearing(COMPUTED),
+        filled: bearing(FILLED),
+        defaulted: bearing(DEFAULTED),
+    };
+    assert_eq!(resampled.counts, counts);
+}
+
+#[test]
+fn constant() -> Result<(), Refusal> {
+    let that = shift_last(1.0, 1, CONSTANT)?;
+    assert_lanes(&that, &[-1.0, 10.0, 20.0, 30.0], &[1, 0, 0, 0]);
+    let back = shift(&request([0.0, 0.0, -1.0], 1, CONSTANT), &that.voxels)?;
+    assert_lanes(&back, &[10.0, 20.0, 30.0, -1.0], &[0, 0, 0, 1]);
+
+    let half = shift_last(-0.5, 1, CONSTANT)?;
+    assert_lanes(&half, &[15.0, 25.0, 35.0, 35.0], &[0, 0, 0, 0]);
+    let nearest_voxel = shift_last(0.5, 0, CONSTANT)?;
+    assert_lanes(&nearest_voxel, &[-1.0, 20.0, 30.0, 40.0], &[1, 0, 0, 0]);
+    assert_eq!(shift_last(-0.5, 0, CONSTANT), Err(Refusal::Beside));
+    Ok(())
+}
+
+#[test]
+fn other_modes() -> Result<(), Refusal> {
+    let right = shift_last(2.0, 1, BorderMode::Nearest)?;
+    assert_lanes(&right, &[0.0, 0.0, 10.0, 20.0], &[2, 2, 0, 0]);
+    let left = shift_last(-2.0, 1, BorderMode::Nearest)?;
+    assert_lanes(&left, &[30.0, 40.0, 40.0, 40.0], &[0, 0, 0, 0]);
+    // Mirror folds -1 to 1, and Wrap, as the document's table has it, to 2.
+    let mirrored = shift_last(1.0, 1, BorderMode::Mirror)?;
+    assert_lanes(&mirrored, &[20.0, 10.0, 20.0, 30.0], &[0, 0, 0, 0]);
+    let wrapped = shift_last(1.0, 1, BorderMode::Wrap)?;
+    assert_lanes(&wrapped, &[30.0, 10.0, 20.0, 30.0], &[0, 0, 0, 0]);
+    Ok(())
+}
+
+#[test]
+fn zoom_by_7_over_4() -> Result<(), Refusal> {
+    let r = request([1.0, 1.0, 1.75], 1, BorderMode::Mirror);
+    let lane = [10.0, 15.0, 20.0, 25.0, 30.0, 35.0, 40.0];
+    assert_lanes(&zoom(&r, &LANE.repeat(4))?, &lane, &[0; 7]);
+    Ok(())
+}
+
+#[test]
+fn reflect_drops_a_plane() -> Result<(), Refusal> {
+    let r = request([8.0, 0.0, 0.0], 1, BorderMode::Reflect);
+    let far = shift(&r, &LANE.repeat(4))?;
+    assert_eq!(far.voxels, [[0.0; 8].to_vec(), LANE.repeat(2)].concat());
+    assert_eq!(far.coverage, [[2; 8], [0; 8]].concat());
+    assert_counted(&far);
+    Ok(())
+}
+
+/// The bits are those that `crates/worked` is held to.
+#[test]
+fn coefficients_of_a_lane() -> Result<(), Refusal> {
+    let r = request([0.0; 3], 3, BorderMode::Mirror);
+    let lane = [
+        0x400f_ffff_ffff_fff1,
+        0x4036_0000_0000_0002,
+        0x403b_ffff_ffff_fffe,
+        0x4047_0000_0000_0000,
+    ];
+    let bits: Vec<u64> = spline_filter1d(&r, 2, &LANE.repeat(4))?
+        .into_iter()
+        .map(f64::to_bits)
+        .collect();
+    assert_eq!(bits, lane.repeat(4));
+    Ok(())
+}
+
+#[test]
+fn the_header_says_the_same() {
+    let header = include_str!("../../../include/vurelika.h");
+    let says = |text: String| assert!(header.contains(&text), "vurelika.h has no {text}");
+    let names = "ORDER AXIS LENGTH FACTOR OUTPUT_LENGTH COUNT BUFFER VALUE BESIDE";
+    for (name, refusal) in names.split(' ').zip(Refusal::ALL) {
+        says(format!("VURELIKA_{name} = {},", refusal.number()));
+    }
+    says(format!("VURELIKA_COMPUTED = {COMPUTED},"));
+    says(format!("VURELIKA_FILLED = {FILLED},"));
+    says(format!("VURELIKA_DEFAULTED = {DEFAULTED} "));
+    says(format!(
+        "#define VURELIKA_VERSION \"{}\"",
+        env!("CARGO_PKG_VERSION")
+    ));
+}
