@@ -1,0 +1,195 @@
+//! Document 01 in plain Rust: the lengths of buffers, and the number that a request is answered
+//! with. The fold alone is the Rust's own, as document 01 has it.
+
+use ndarray_ndimage::probe::map_coordinates;
+use ndarray_ndimage::BorderMode;
+
+use crate::request::{Asked, Entry, Request};
+
+/// The most places of a volume or of work.
+const MOST_PLACES: usize = 1 << 27;
+/// The largest size of a value.
+pub const LARGEST: f64 = (1u128 << 100) as f64;
+/// The size that a shift stays below.
+pub const FARTHEST: f64 = (1 << 20) as f64;
+/// The answer to a mode that is none of the five.
+pub const UNKNOWN_MODE: u32 = 255;
+
+/// Whether a refusal applies, asked only where no earlier one does.
+type Applies = fn(&Request) -> bool;
+
+/// The refusals in document 01's order. Without a mode there is no request, so that this comes first.
+const REFUSALS: [(u32, Applies); 10] = [
+    (UNKNOWN_MODE, |request| request.asked.mode().is_none()),
+    (1, order_refused),
+    (2, axis_refused),
+    (3, length_refused),
+    (4, factor_refused),
+    (5, output_length_refused),
+    (6, count_refused),
+    (7, buffer_refused),
+    (8, value_refused),
+    (9, coordinate_refused),
+];
+
+/// The number of the answer: the first refusal that applies, or 0.
+pub fn answer(request: &Request) -> u32 {
+    let refusal = REFUSALS.iter().find(|(_, applies)| applies(request));
+    refusal.map_or(0, |(number, _)| *number)
+}
+
+fn order_refused(Request { asked, .. }: &Request) -> bool {
+    asked.order > 5 || asked.entry == Entry::SplineFilter && asked.order < 2
+}
+
+fn axis_refused(Request { asked, .. }: &Request) -> bool {
+    asked.entry == Entry::SplineFilter1d && asked.axis > 2
+}
+
+fn length_refused(Request { asked, .. }: &Request) -> bool {
+    !asked.dims.into_iter().all(is_length)
+}
+
+fn factor_refused(Request { asked, .. }: &Request) -> bool {
+    match asked.entry {
+        Entry::Shift => !asked.factors.into_iter().all(is_shift),
+        Entry::Zoom => !asked.factors.into_iter().all(is_zoom),
+        Entry::SplineFilter | Entry::SplineFilter1d => false,
+    }
+}
+
+fn output_length_refused(Request { asked, .. }: &Request) -> bool {
+    !asked.output_dims().into_iter().all(is_length)
+}
+
+fn count_refused(Request { asked, .. }: &Request) -> bool {
+    let counts = [
+        count(asked.dims),
+        count(asked.output_dims()),
+        asked.needed(),
+    ];
+    counts.into_iter().any(|count| count > MOST_PLACES)
+}
+
+fn buffer_refused(request: &Request) -> bool {
+    let (asked, lent) = (&request.asked, &request.lengths);
+    let voxels = count(asked.output_dims());
+    request.input.len() != count(asked.dims)
+        || lent.output != voxels
+        || asked.entry.resamples()
+            && (lent.coverage != voxels || lent.work < asked.needed() || lent.counts != 3)
+}
+
+fn value_refused(Request { asked, input, .. }: &Request) -> bool {
+    let has_fill = matches!(asked.mode(), Some(BorderMode::Constant(_)));
+    has_fill && !is_value(&asked.fill) || !input.iter().all(is_value)
+}
+
+fn coordinate_refused(Request { asked, .. }: &Request) -> bool {
+    asked.entry.resamples() && asked.order == 0 && (0..3).any(|axis| beside(asked, axis))
+}
+
+fn is_length(length: usize) -> bool {
+    (2..=4096).contains(&length)
+}
+
+fn is_shift(shift: f64) -> bool {
+    shift.abs() < FARTHEST
+}
+
+fn is_zoom(factor: f64) -> bool {
+    factor > 0.0 && factor <= 4096.0
+}
+
+fn is_value(value: &f64) -> bool {
+    value.abs() <= LARGEST
+}
+
+/// Whether a coordinate of the axis is kept, but rounds to an index outside. Order 0 never pads.
+fn beside(asked: &Asked, axis: usize) -> bool {
+    let (length, outputs) = (asked.dims[axis], asked.output_dims()[axis]);
+    let (shift, ratio) = match asked.entry {
+        Entry::Shift => (-asked.factors[axis], 1.0),
+        _ => (0.0, (length - 1) as f64 / (outputs - 1) as f64),
+    };
+    let length = length as f64;
+    (0..outputs).any(|index| {
+        let at = (index as f64 + shift) * ratio + 0.0;
+        let at = match asked.mode() {
+            Some(mode) if mode != BorderMode::Nearest => map_coordinates(at, length, mode),
+            _ => at,
+        };
+        let nearest = (at + 0.5).floor();
+        at > -1.0 && !(0.0 <= nearest && nearest < length)
+    })
+}
+
+/// The product, or the largest number there is.
+pub fn count(dims: [usize; 3]) -> usize {
+    dims.into_iter().fold(1, usize::saturating_mul)
+}
+
+fn zoomed(length: usize, factor: f64) -> usize {
+    (length as f64 * factor).round_ties_even() as usize
+}
+
+/// What `vurelika_zoom_length` gives: 0 where one of refusals 3 to 5 applies.
+pub fn zoom_length(length: usize, factor: f64) -> usize {
+    let taken = is_length(length) && is_zoom(factor) && is_length(zoomed(length, factor));
+    if taken {
+        zoomed(length, factor)
+    } else {
+        0
+    }
+}
+
+/// What `vurelika_work_count` gives: 0 where the mode is unknown or refusal 1 or 3 applies.
+pub fn work_count(asked: &Asked) -> usize {
+    let taken = asked.mode().is_some() && asked.order <= 5 && asked.dims.into_iter().all(is_length);
+    if taken {
+        asked.resampling_work()
+    } else {
+        0
+    }
+}
+
+impl Asked {
+    /// The border mode that the numbers name.
+    pub fn mode(&self) -> Option<BorderMode<f64>> {
+        match self.mode {
+            0 => Some(BorderMode::Constant(self.fill)),
+            1 => Some(BorderMode::Mirror),
+            2 => Some(BorderMode::Nearest),
+            3 => Some(BorderMode::Reflect),
+            4 => Some(BorderMode::Wrap),
+            _ => None,
+        }
+    }
+
+    pub fn output_dims(&self) -> [usize; 3] {
+        match self.entry {
+            Entry::Zoom => [0, 1, 2].map(|axis| zoomed(self.dims[axis], self.factors[axis])),
+            _ => self.dims,
+        }
+    }
+
+    /// The places of work that `shift` and `zoom` need, were there no refusal.
+    fn resampling_work(&self) -> usize {
+        if self.prefilter == 0 || self.order < 2 {
+            0
+        } else if self.mode() == Some(BorderMode::Nearest) {
+            count(self.dims.map(|length| length.saturating_add(24)))
+        } else {
+            count(self.dims)
+        }
+    }
+
+    /// The places of work needed; the filters need none.
+    pub fn needed(&self) -> usize {
+        if self.entry.resamples() {
+            self.resampling_work()
+        } else {
+            0
+        }
+    }
+}

@@ -1,0 +1,225 @@
+//! Requests that are always put: every entry, mode and order; the prefilter's cut-offs; the edges of
+//! the folds; zooms that round from a tie; the longest axes; each limit alone and in pairs.
+
+use crate::plan::{Plan, Voxels, VOXELS};
+use crate::request::{Asked, Entry, ENTRIES};
+use crate::spoils::{sound, SPOILS};
+
+const MODES: std::ops::Range<u32> = 0..5;
+
+pub fn plans() -> Vec<Plan> {
+    let mut plans = Vec::new();
+    plans.extend(combinations());
+    plans.extend(cut_offs());
+    plans.extend(fold_edges());
+    plans.extend(padded_edges());
+    plans.extend(ties());
+    plans.extend(longest());
+    plans.extend(limits());
+    plans
+}
+
+/// Short axes, no prefilter, Constant: what the lists below change in places.
+fn plain(entry: Entry, order: usize) -> Asked {
+    Asked {
+        entry,
+        dims: [2; 3],
+        factors: match entry {
+            Entry::Zoom => [1.0; 3],
+            _ => [0.0; 3],
+        },
+        order,
+        axis: 0,
+        prefilter: 0,
+        mode: 0,
+        fill: -7.25,
+    }
+}
+
+fn combinations() -> Vec<Plan> {
+    let mut plans = Vec::new();
+    for entry in ENTRIES {
+        for mode in MODES {
+            for order in 0..=6 {
+                for (voxels, seed) in VOXELS.into_iter().zip(0..) {
+                    for prefilter in [0, 1, u32::MAX] {
+                        let asked = Asked {
+                            dims: [3, 4, 5],
+                            factors: match entry {
+                                Entry::Zoom => [1.5, 0.75, 1.75],
+                                _ if order == 0 => [1.0, -2.0, 0.25],
+                                _ => [0.25, -1.5, 6.0],
+                            },
+                            axis: seed as usize % 3,
+                            prefilter,
+                            mode,
+                            ..plain(entry, order)
+                        };
+                        plans.push(Plan {
+                            voxels,
+                            ..Plan::of(asked, seed)
+                        });
+                    }
+                }
+            }
+        }
+    }
+    plans
+}
+
+/// Both sides of each length at which a start of the prefilter changes its way.
+fn cut_offs() -> Vec<Plan> {
+    let mut plans = Vec::new();
+    for cut_off in [7, 10, 19, 25, 33, 40] {
+        for length in [cut_off - 1, cut_off, cut_off + 1] {
+            for axis in 0..3 {
+                for order in 2..=5 {
+                    for mode in MODES {
+                        for entry in ENTRIES {
+                            let mut asked = Asked {
+                                axis,
+                                prefilter: 1,
+                                mode,
+                                ..plain(entry, order)
+                            };
+                            asked.dims[axis] = length;
+                            asked.factors[axis] = 1.25;
+                            plans.push(Plan::of(asked, length as u64));
+                        }
+                    }
+                }
+            }
+        }
+    }
+    plans
+}
+
+/// Shifts that put some voxel on an edge of a fold, or one float beside it.
+fn fold_edges() -> Vec<Plan> {
+    let mut plans = Vec::new();
+    for length in [2, 3, 4, 7] {
+        for mode in MODES {
+            for period in [length, length - 1, 2 * length, 2 * length - 2] {
+                let farthest = ((1 << 20) - 1) / period;
+                for times in [0, 1, 2, 3, farthest] {
+                    let whole = (times * period) as f64;
+                    for edge in [whole, -whole] {
+                        for at in [edge.next_down(), edge, edge.next_up(), edge + 0.5] {
+                            for order in [0, 1, 2] {
+                                plans.push(Plan::of(
+                                    Asked {
+                                        dims: [2, 2, length],
+                                        factors: [0.0, 0.0, at],
+                                        mode,
+                                        ..plain(Entry::Shift, order)
+                                    },
+                                    length as u64,
+                                ));
+                            }
+                        }
+                    }
+                }
+            }
+        }
+    }
+    plans
+}
+
+/// The same in Nearest with its pad, which drops a coordinate at or below -13.
+fn padded_edges() -> Vec<Plan> {
+    let mut plans = Vec::new();
+    for order in 2..=5 {
+        for edge in [11.0, 12.0, 13.0, 14.0f64] {
+            for shift in [edge.next_down(), edge, edge.next_up(), -edge] {
+                plans.push(Plan::of(
+                    Asked {
+                        dims: [2, 3, 2],
+                        factors: [0.0, shift, 0.0],
+                        prefilter: 1,
+                        mode: 2,
+                        ..plain(Entry::Shift, order)
+                    },
+                    order as u64,
+                ));
+            }
+        }
+    }
+    plans
+}
+
+/// Factors at which an output length lies halfway between two, and the floats beside them.
+fn ties() -> Vec<Plan> {
+    let mut plans = Vec::new();
+    for length in 2..10 {
+        for outputs in 1..12 {
+            let tie = (f64::from(outputs) + 0.5) / length as f64;
+            for factor in [tie.next_down(), tie, tie.next_up()] {
+                plans.push(Plan::of(
+                    Asked {
+                        dims: [2, length, 2],
+                        factors: [1.0, factor, 1.0],
+                        mode: 1,
+                        ..plain(Entry::Zoom, 1)
+                    },
+                    length as u64,
+                ));
+            }
+        }
+    }
+    plans
+}
+
+/// Axes of 4,096, in or out.
+fn longest() -> Vec<Plan> {
+    let mut plans = Vec::new();
+    for axis in 0..3 {
+        for mode in MODES {
+            for (entry, order) in [
+                (Entry::Shift, 1),
+                (Entry::Shift, 4),
+                (Entry::Zoom, 2),
+                (Entry::SplineFilter, 5),
+                (Entry::SplineFilter1d, 3),
+            ] {
+                let mut asked = Asked {
+                    axis,
+                    prefilter: 1,
+                    mode,
+                    ..plain(entry, order)
+                };
+                asked.dims[axis] = 4096;
+                asked.factors[axis] = match entry {
+                    Entry::Zoom => 0.3,
+                    _ => -2047.25,
+                };
+                plans.push(Plan::of(asked, axis as u64));
+            }
+            let mut widened = plain(Entry::Zoom, 3);
+            widened.mode = mode;
+            widened.factors[axis] = 2048.0;
+            plans.push(Plan {
+                voxels: Voxels::Whole,
+                ..Plan::of(widened, axis as u64)
+            });
+        }
+    }
+    plans
+}
+
+/// Each limit alone, then with every other.
+fn limits() -> Vec<Plan> {
+    let mut plans = Vec::new();
+    for entry in ENTRIES {
+        for (i, first) in SPOILS.iter().enumerate() {
+            let mut alone = sound(entry);
+            first(&mut alone);
+            plans.push(alone);
+            for second in &SPOILS[i + 1..] {
+                let mut both = alone;
+                second(&mut both);
+                plans.push(both);
+            }
+        }
+    }
+    plans
+}

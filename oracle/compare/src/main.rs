@@ -1,0 +1,99 @@
+//! `compare`: puts the same requests to the library and to the Rust, and compares every place of every
+//! buffer bit for bit. oracle/run-compare builds and runs it.
+
+mod document;
+mod drawn;
+mod expected;
+mod faults;
+mod lent;
+mod listed;
+mod ours;
+mod outcome;
+mod piped;
+mod plan;
+mod request;
+mod seeded;
+mod spoils;
+mod tally;
+mod theirs;
+
+use std::process::ExitCode;
+
+use outcome::Outcome;
+use plan::Plan;
+use request::Request;
+use tally::Tally;
+
+const USAGE: &str =
+    "usage: compare linked CASES SEED | compare piped CASES SEED PROGRAM [WORD...] | compare faults";
+
+/// The piped library is given one request in so many, and none with more places.
+const ONE_IN: usize = 20;
+const SMALL: usize = 30_000;
+
+fn main() -> ExitCode {
+    theirs::keep_caught_panics_quiet();
+    let words: Vec<String> = std::env::args().skip(1).collect();
+    match run(&words) {
+        Ok(summary) => {
+            println!("{summary}");
+            ExitCode::SUCCESS
+        }
+        Err(reason) => {
+            eprintln!("compare: {reason}");
+            ExitCode::FAILURE
+        }
+    }
+}
+
+fn run(words: &[String]) -> Result<String, String> {
+    let command: Vec<&str> = words.iter().map(String::as_str).collect();
+    match command[..] {
+        ["linked", cases, seed] => compare(plans(cases, seed)?, |request| Ok(ours::call(request))),
+        ["piped", cases, seed, _, ..] => {
+            let small = |(_, plan): &(usize, Plan)| plan.places() <= SMALL;
+            let some = plans(cases, seed)?.step_by(ONE_IN).filter(small);
+            let mut door = piped::Door::open(&words[3..]).map_err(|error| error.to_string())?;
+            compare(some, |request| {
+                door.call(request).map_err(|error| error.to_string())
+            })
+        }
+        ["faults"] => {
+            let count = faults::all_noticed()?;
+            Ok(format!("planted faults: {count} of {count} noticed"))
+        }
+        _ => Err(USAGE.into()),
+    }
+}
+
+/// The list, then as many cases as are asked for, each with its number.
+fn plans(cases: &str, seed: &str) -> Result<impl Iterator<Item = (usize, Plan)>, String> {
+    let number = |word: &str| {
+        let number = word.parse::<u64>();
+        number.map_err(|_| format!("{word} is no whole number; {USAGE}"))
+    };
+    let (cases, seed) = (number(cases)?, number(seed)?);
+    let drawn = (0..cases).map(move |number| drawn::plan(seed, number));
+    Ok(listed::plans().into_iter().chain(drawn).enumerate())
+}
+
+/// A summary; or the first difference, with the request at which it appears.
+fn compare(
+    plans: impl Iterator<Item = (usize, Plan)>,
+    mut call: impl FnMut(&Request) -> Result<Outcome, String>,
+) -> Result<String, String> {
+    let mut tally = Tally::default();
+    for (number, plan) in plans {
+        let request = plan.request();
+        let outcome = call(&request)?;
+        let difference = match expected::outcome(&request) {
+            Ok(expected) => outcome.difference(&expected),
+            Err(disagreement) => Some(disagreement),
+        };
+        if let Some(difference) = difference {
+            return Err(format!("case {number} differs: {difference}\n{request}"));
+        }
+        tally.add(&request, &outcome);
+    }
+    Ok(tally.to_string())
+}

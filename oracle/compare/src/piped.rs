@@ -1,0 +1,99 @@
+//! The library in another process: door.c, which calls the x86-64 archive and is spoken to in
+//! numbers of eight bytes and the raw bytes of the buffers.
+
+use std::io::{self, BufReader, BufWriter, Read, Write};
+use std::process::{Child, ChildStdin, ChildStdout, Command, Stdio};
+
+use crate::lent::{Lent, GUARD};
+use crate::outcome::Outcome;
+use crate::request::Request;
+
+pub struct Door {
+    to: BufWriter<ChildStdin>,
+    from: BufReader<ChildStdout>,
+    _process: Child,
+}
+
+impl Door {
+    /// Starts the program, whose name and words these are.
+    pub fn open(program: &[String]) -> io::Result<Door> {
+        let [name, words @ ..] = program else {
+            return Err(io::Error::other("no program is named"));
+        };
+        let mut process = Command::new(name)
+            .args(words)
+            .stdin(Stdio::piped())
+            .stdout(Stdio::piped())
+            .spawn()?;
+        let (to, from) = (process.stdin.take(), process.stdout.take());
+        Ok(Door {
+            to: BufWriter::new(to.expect("a pipe to the program")),
+            from: BufReader::new(from.expect("a pipe from the program")),
+            _process: process,
+        })
+    }
+
+    pub fn call(&mut self, request: &Request) -> io::Result<Outcome> {
+        let mut lent = Lent::new(request);
+        self.ask(request, &lent)?;
+        self.to.flush()?;
+        let [status, z0, z1, z2, work_count] = self.numbers()?;
+        self.read_words(lent.input.whole_mut())?;
+        self.read_words(lent.output.whole_mut())?;
+        self.from.read_exact(lent.coverage.whole_mut())?;
+        self.read_words(lent.work.whole_mut())?;
+        self.read_words(lent.counts.whole_mut())?;
+        Ok(Outcome {
+            status: status as u32,
+            zoom_lengths: [z0, z1, z2].map(|length| length as usize),
+            work_count: work_count as usize,
+            lent,
+        })
+    }
+
+    fn ask(&mut self, request: &Request, lent: &Lent) -> io::Result<()> {
+        let asked = &request.asked;
+        self.write_words(&[asked.entry as u64])?;
+        self.write_words(&asked.dims.map(|length| length as u64))?;
+        self.write_words(&asked.factors.map(f64::to_bits))?;
+        self.write_words(&[
+            asked.order as u64,
+            asked.axis as u64,
+            asked.prefilter.into(),
+            asked.mode.into(),
+            asked.fill.to_bits(),
+            GUARD as u64,
+            lent.input.length() as u64,
+            lent.output.length() as u64,
+            lent.coverage.length() as u64,
+            lent.work.length() as u64,
+            lent.counts.length() as u64,
+        ])?;
+        self.write_words(lent.input.whole())?;
+        self.write_words(lent.output.whole())?;
+        self.to.write_all(lent.coverage.whole())?;
+        self.write_words(lent.work.whole())?;
+        self.write_words(lent.counts.whole())
+    }
+
+    fn write_words(&mut self, words: &[u64]) -> io::Result<()> {
+        words
+            .iter()
+            .try_for_each(|word| self.to.write_all(&word.to_le_bytes()))
+    }
+
+    fn numbers<const N: usize>(&mut self) -> io::Result<[u64; N]> {
+        let mut numbers = [0; N];
+        self.read_words(&mut numbers)?;
+        Ok(numbers)
+    }
+
+    fn read_words(&mut self, words: &mut [u64]) -> io::Result<()> {
+        for word in words {
+            let mut bytes = [0; 8];
+            self.from.read_exact(&mut bytes)?;
+            *word = u64::from_le_bytes(bytes);
+        }
+        Ok(())
+    }
+}

@@ -1,0 +1,103 @@
+//! What is asked of both sides, and what the library is lent to answer it.
+
+use std::fmt;
+
+#[derive(Clone, Copy, Debug, PartialEq)]
+pub enum Entry {
+    Shift,
+    Zoom,
+    SplineFilter,
+    SplineFilter1d,
+}
+
+pub const ENTRIES: [Entry; 4] = [
+    Entry::Shift,
+    Entry::Zoom,
+    Entry::SplineFilter,
+    Entry::SplineFilter1d,
+];
+
+impl Entry {
+    pub fn name(self) -> &'static str {
+        match self {
+            Entry::Shift => "shift",
+            Entry::Zoom => "zoom",
+            Entry::SplineFilter => "spline_filter",
+            Entry::SplineFilter1d => "spline_filter1d",
+        }
+    }
+
+    /// Whether it moves voxels: then it has factors, codes, work and counts.
+    pub fn resamples(self) -> bool {
+        matches!(self, Entry::Shift | Entry::Zoom)
+    }
+}
+
+/// The numbers of a request. An entry reads those that it has arguments for.
+#[derive(Clone, Copy)]
+pub struct Asked {
+    pub entry: Entry,
+    pub dims: [usize; 3],
+    pub factors: [f64; 3],
+    pub order: usize,
+    pub axis: usize,
+    pub prefilter: u32,
+    pub mode: u32,
+    pub fill: f64,
+}
+
+/// How many places each buffer has; `input` has its own length.
+#[derive(Clone, Copy)]
+pub struct Lengths {
+    pub output: usize,
+    pub coverage: usize,
+    pub work: usize,
+    pub counts: usize,
+}
+
+pub struct Request {
+    pub asked: Asked,
+    pub input: Vec<f64>,
+    pub lengths: Lengths,
+}
+
+/// As a line that `oracle ask` reads, floats by their bits; below it, what that line cannot say.
+impl fmt::Display for Request {
+    fn fmt(&self, f: &mut fmt::Formatter) -> fmt::Result {
+        let asked = &self.asked;
+        let [d0, d1, d2] = asked.dims;
+        write!(f, "{} dims {d0} {d1} {d2}", asked.entry.name())?;
+        if asked.entry.resamples() {
+            let [f0, f1, f2] = asked.factors.map(f64::to_bits);
+            write!(f, " factors {f0:#018x} {f1:#018x} {f2:#018x}")?;
+            write!(f, " prefilter {}", u32::from(asked.prefilter != 0))?;
+        }
+        if asked.entry == Entry::SplineFilter1d {
+            write!(f, " axis {}", asked.axis)?;
+        }
+        write!(f, " order {} mode ", asked.order)?;
+        match asked.mode {
+            0 => write!(f, "constant {:#018x}", asked.fill.to_bits())?,
+            1 => write!(f, "mirror")?,
+            2 => write!(f, "nearest")?,
+            3 => write!(f, "reflect")?,
+            4 => write!(f, "wrap")?,
+            unknown => write!(f, "{unknown}")?,
+        }
+        write!(f, " input")?;
+        for voxel in &self.input {
+            write!(f, " {:#018x}", voxel.to_bits())?;
+        }
+        let lent = &self.lengths;
+        write!(
+            f,
+            "\nprefilter given as {}; lent: input {} output {} coverage {} work {} counts {}",
+            asked.prefilter,
+            self.input.len(),
+            lent.output,
+            lent.coverage,
+            lent.work,
+            lent.counts
+        )
+    }
+}

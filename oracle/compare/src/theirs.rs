@@ -1,0 +1,85 @@
+//! The Rust: its values, the codes off its own tables of dropped indices, and its coefficients.
+
+use std::cell::Cell;
+use std::panic::{self, AssertUnwindSafe};
+
+use ndarray::{Array3, Axis};
+use ndarray_ndimage::probe::{codes, coefficients, Axes};
+use ndarray_ndimage::{shift, spline_filter, spline_filter1d, zoom, BorderMode};
+
+use crate::request::{Asked, Entry, Request};
+
+/// What the Rust gives. The filters have no codes; without a prefilter there are no coefficients.
+pub struct Theirs {
+    pub values: Vec<f64>,
+    pub codes: Vec<u8>,
+    pub coefficients: Vec<f64>,
+}
+
+thread_local! {
+    static IN_THE_RUST: Cell<bool> = const { Cell::new(false) };
+}
+
+/// Panics of the Rust are answers and print nothing; any other is a fault of this program.
+pub fn keep_caught_panics_quiet() {
+    let report = panic::take_hook();
+    panic::set_hook(Box::new(move |info| {
+        if !IN_THE_RUST.get() {
+            report(info);
+        }
+    }));
+}
+
+/// What the Rust gives for a request that passes refusals 1 to 8; `None` where it panics.
+pub fn call(request: &Request, mode: BorderMode<f64>) -> Option<Theirs> {
+    IN_THE_RUST.set(true);
+    let outcome = panic::catch_unwind(AssertUnwindSafe(|| answer(request, mode)));
+    IN_THE_RUST.set(false);
+    outcome.ok()
+}
+
+fn answer(request: &Request, mode: BorderMode<f64>) -> Theirs {
+    let &Asked {
+        entry,
+        dims,
+        factors,
+        order,
+        axis,
+        ..
+    } = &request.asked;
+    let [d0, d1, d2] = dims;
+    let prefilter = request.asked.prefilter != 0;
+    let data = Array3::from_shape_vec((d0, d1, d2), request.input.clone())
+        .expect("as many voxels as the dimensions say");
+    let resampled = |values: Array3<f64>, axes: Axes| Theirs {
+        values: flat(values),
+        codes: codes(&axes.points(order, mode), mode),
+        coefficients: if prefilter && order > 1 {
+            flat(coefficients(&data, order, mode, prefilter))
+        } else {
+            Vec::new()
+        },
+    };
+    let filtered = |values| Theirs {
+        values: flat(values),
+        codes: Vec::new(),
+        coefficients: Vec::new(),
+    };
+    match entry {
+        Entry::Shift => resampled(
+            shift(&data, factors, order, mode, prefilter),
+            Axes::of_shift(dims, factors, order, mode, prefilter),
+        ),
+        Entry::Zoom => resampled(
+            zoom(&data, factors, order, mode, prefilter),
+            Axes::of_zoom(dims, factors, order, mode, prefilter),
+        ),
+        Entry::SplineFilter => filtered(spline_filter(&data, order, mode)),
+        Entry::SplineFilter1d => filtered(spline_filter1d(&data, order, mode, Axis(axis))),
+    }
+}
+
+fn flat(volume: Array3<f64>) -> Vec<f64> {
+    let values = volume.as_slice();
+    values.expect("a volume in the order of memory").to_vec()
+}
