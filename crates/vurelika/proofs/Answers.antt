@@ -20,7 +20,8 @@ use Rattle.coverage.specs.Coverage.{none}
 use Rattle.resample.specs.declared.Answer.{Answer}
 use Rattle.resample.specs.declared.Answer.the-variants as answer
 use Rattle.resample.specs.Call.{Call, FilterCall, callOf, callBy, numberIn, shiftCall, zoomCall}
-use Rattle.vurelika.specs.Door.{isMode, places, unknownMode, tally, cleared, Entry, Door, doorOf, answered, doorBy, filterDoorOf, filterDoorBy}
+use Rattle.numbers.specs.Numbers.{isMode, places, tally, cleared}
+use Rattle.vurelika.specs.Door.{unknownMode, Entry, Door, doorOf, answered, doorBy, filterDoorOf, filterDoorBy}
 use Rattle.vurelika.proofs.Empty.{inPlace, EmptyRefused, empty-refused-shift, empty-refused-zoom}
 use Rattle.vurelika.proofs.Doors.{unknown, filter-unknown}
 

@@ -12,7 +12,8 @@ use Rattle.resample.specs.declared.Answer.{Answer}
 use Rattle.resample.specs.declared.Answer.the-variants as answer
 use Rattle.resample.specs.Call.{Call, FilterCall, callOf, numberIn, countsIn, filterCallOf}
 use Rattle.request.specs.Refusals.{numberBy}
-use Rattle.vurelika.specs.Door.{isMode, places, unknownMode, tally, cleared, Entry, doorOf, answered, doorBy, filterDoorOf, filterDoorBy}
+use Rattle.numbers.specs.Numbers.{isMode, places, tally, cleared}
+use Rattle.vurelika.specs.Door.{unknownMode, Entry, doorOf, answered, doorBy, filterDoorOf, filterDoorBy}
 use Rattle.vurelika.proofs.Empty.{EmptyRefused}
 
 -- ---- shift and zoom

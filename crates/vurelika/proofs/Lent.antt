@@ -15,7 +15,8 @@ use Rattle.request.specs.declared.Request.{Request}
 use Rattle.request.specs.Sizes.{needed, zoomDims}
 use Rattle.request.specs.Refusals.{badLength, badLengths, badZoom, badFactors}
 use Rattle.request.proofs.Requests.{none-at}
-use Rattle.vurelika.specs.Door.{isMode, modeOf, requestOf, zoomLength, workCount}
+use Rattle.numbers.specs.Numbers.{isMode, modeOf, requestOf}
+use Rattle.vurelika.specs.Door.{zoomLength, workCount}
 
 -- a length that 3 to 5 let pass
 zoom-length : (length : ℕ) (factor : Float) → badLength length ≡ false → badZoom factor ≡ false → badLength (outputLength length factor) ≡ false → outputLength length factor ≡ zoomLength length factor

@@ -4,7 +4,8 @@ use mathlib.Core.Path.{_≡_, sym, ap, _∙_}
 use mathlib.Core.List.{List}
 use lib.Ieee.{Float}
 use Rattle.resample.specs.Call.{shiftCall, zoomCall, splineFilterCall, splineFilter1dCall}
-use Rattle.vurelika.specs.Door.{requestOf, plainRequestOf, Door, doorBy, FilterDoor, filterDoorBy, zoomLength, workCount}
+use Rattle.numbers.specs.Numbers.{requestOf, plainRequestOf}
+use Rattle.vurelika.specs.Door.{Door, doorBy, FilterDoor, filterDoorBy, zoomLength, workCount}
 
 -- a contract says that the outcome is what a definition says: that allows one only
 same : {A : Type 0} {x y means : A} → x ≡ means → y ≡ means → x ≡ y

@@ -1,61 +1,21 @@
 -- "It returns 0 for success or the refusal's number. Modes: 0 Constant, 1 Mirror, 2 Nearest, 3 Reflect, 4 Wrap (5 is kept free); any other is answered 255 before all else: no request could be formed, so it is none of document 01's refusals. `fill` is read in mode 0 alone. `prefilter` is on where it is not 0. `counts` has exactly as many places as there are codes, else 7 in its place in the order: the door then hands the entry an empty output, whose length no request has, so that the entry itself gives 1 to 6 or 7 and writes nothing. Where `counts` has the right length it is written 0 on 255 and on every refusal."
 use Prim.Native.Nat.{ℕ}
-use mathlib.Core.Bool.{Bool, not, _||_, cond}
+use mathlib.Core.Bool.{not, _||_, cond}
 use mathlib.Core.List.{List, [], _∷_}
-use lib.Dec.{eqb, ltb}
+use lib.Dec.{eqb}
 use lib.ListN.{length}
 use lib.Ieee.{Float}
 use Rattle.exact.specs.Rounded.{num}
-use Rattle.border.specs.declared.BorderMode.{BorderMode}
-use Rattle.border.specs.declared.BorderMode.the-variants.{Constant, Mirror, Nearest, Reflect, Wrap}
 use Rattle.axis.specs.Length.{outputLength}
 use Rattle.request.specs.declared.Request.{Request}
 use Rattle.request.specs.Sizes.{needed}
 use Rattle.request.specs.Refusals.{numberBy, badOrder, badLength, badLengths, badZoom}
-use Rattle.coverage.specs.declared.counts.Counts.{Counts}
-use Rattle.coverage.specs.Coverage.{none}
+use Rattle.numbers.specs.Numbers.{isMode, plainRequestOf, places, tally, cleared}
 use Rattle.resample.specs.Call.{Call, FilterCall, numberIn, countsIn}
 
--- ---- the numbers of the modes
-abbrev pub isMode : ℕ → Bool
-isMode mode = ltb mode 5
-
--- of the five numbers: of another it is never asked
-unfoldable pub modeOf : ℕ → Float → BorderMode
-modeOf mode fill =
-    cond (eqb mode 0) (Constant fill)
-    (cond (eqb mode 1) Mirror
-    (cond (eqb mode 2) Nearest
-    (cond (eqb mode 3) Reflect
-    Wrap)))
-
--- what a mode that has no number here is answered
+-- what a mode that has no number is answered
 abbrev pub unknownMode : ℕ
 unknownMode = 255
-
--- ---- the request
-abbrev pub requestOf : ℕ → ℕ → ℕ → Float → Float → Float → ℕ → ℕ → ℕ → Float → Request
-requestOf d0 d1 d2 f0 f1 f2 order prefilter mode fill = record {
-  dims = d0 ∷ d1 ∷ d2 ∷ [];
-  factors = f0 ∷ f1 ∷ f2 ∷ [];
-  order = order;
-  prefilter = not (eqb prefilter 0);
-  mode = modeOf mode fill;
-}
-
--- without factors, which neither the filters nor the needed count read
-abbrev pub plainRequestOf : ℕ → ℕ → ℕ → ℕ → ℕ → ℕ → Float → Request
-plainRequestOf d0 d1 d2 order prefilter mode fill = requestOf d0 d1 d2 (num 0) (num 0) (num 0) order prefilter mode fill
-
--- ---- the counts: a place for each code
-abbrev pub places : ℕ
-places = 3
-
-abbrev pub tally : Counts → List ℕ
-tally c = c .computed ∷ c .filled ∷ c .defaulted ∷ []
-
-unfoldable pub cleared : List ℕ → List ℕ
-cleared counts = cond (eqb (length counts) places) (tally none) counts
 
 -- ---- shift and zoom
 -- what is returned, and what the lent buffers then hold

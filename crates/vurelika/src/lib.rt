@@ -2,15 +2,15 @@
 // No caller has checked anything.
 ghost use mathlib.Core.Path.{_≡_};
 ghost use Rattle.resample.specs.Call.{shiftCall, zoomCall, splineFilterCall, splineFilter1dCall};
-ghost use Rattle.vurelika.specs.Door.{requestOf, plainRequestOf, doorOf, doorBy, filterDoorOf, filterDoorBy, zoomLength, workCount};
-use crate::mode::is_mode;
-use crate::mode::plain_request_of;
-use crate::mode::request_of;
-use crate::report::PLACES;
-use crate::report::UNKNOWN_MODE;
-use crate::report::clear;
-use crate::report::report;
+ghost use Rattle.numbers.specs.Numbers.{requestOf, plainRequestOf};
+ghost use Rattle.vurelika.specs.Door.{doorOf, doorBy, filterDoorOf, filterDoorBy, zoomLength, workCount};
 use axis::coordinate::output_length;
+use numbers::asked::is_mode;
+use numbers::asked::plain_request_of;
+use numbers::asked::request_of;
+use numbers::told::PLACES;
+use numbers::told::clear;
+use numbers::told::report;
 use request::refusal::bad_length;
 use request::refusal::bad_lengths;
 use request::refusal::bad_zoom;
@@ -22,8 +22,8 @@ use resample::spline_filter;
 use resample::spline_filter1d;
 use resample::zoom;
 
-mod mode;
-mod report;
+// The answer to a mode that has no number.
+const UNKNOWN_MODE: u32 = 255;
 
 #[no_mangle]
 pub extern "C" fn vurelika_shift(

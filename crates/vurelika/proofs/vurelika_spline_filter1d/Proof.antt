@@ -2,7 +2,7 @@
 use mathlib.Core.Path.{sym, _∙_}
 use Rattle.request.specs.declared.Request.{Request}
 use Rattle.resample.specs.Call.{splineFilter1dCall}
-use Rattle.vurelika.specs.Door.{plainRequestOf}
+use Rattle.numbers.specs.Numbers.{plainRequestOf}
 use Rattle.vurelika.proofs.Doors.{filter-answers, filter-unknown}
 use borrow.Author.Needs.{needs}
 use Rattle.vurelika.proofs.vurelika_spline_filter1d.Statement.{statement}

@@ -11,7 +11,8 @@ use Rattle.request.specs.declared.Request.{Request}
 use Rattle.request.specs.Sizes.{needed, Lengths}
 use Rattle.request.specs.Refusals.{badLengths}
 use Rattle.request.proofs.Requests.{good-lengths}
-use Rattle.vurelika.specs.Door.{isMode, plainRequestOf, workCount}
+use Rattle.numbers.specs.Numbers.{isMode, plainRequestOf}
+use Rattle.vurelika.specs.Door.{workCount}
 use borrow.Author.Needs.{needs}
 use Rattle.vurelika.proofs.vurelika_work_count.Statement.{statement}
 use Rattle.vurelika.proofs.vurelika_work_count.Tie as tie

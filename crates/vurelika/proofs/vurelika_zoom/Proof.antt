@@ -2,7 +2,7 @@
 use mathlib.Core.Path.{sym, _∙_}
 use Rattle.request.specs.declared.Request.{Request}
 use Rattle.resample.specs.Call.{zoomCall}
-use Rattle.vurelika.specs.Door.{requestOf}
+use Rattle.numbers.specs.Numbers.{requestOf}
 use Rattle.vurelika.proofs.Empty.{empty-refused-zoom}
 use Rattle.vurelika.proofs.Doors.{answers, refuses, unknown}
 use borrow.Author.Needs.{needs}

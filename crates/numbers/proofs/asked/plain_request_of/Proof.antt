@@ -1,8 +1,8 @@
--- `vurelika::mode::plain_request_of` meets its contract: the literal 0.0 is the number 0.
+-- `numbers::asked::plain_request_of` meets its contract: the literal 0.0 is the number 0.
 use lib.Ieee.{ofBits, ofInt}
 use borrow.Author.Needs.{needs}
-use Rattle.vurelika.proofs.mode.plain_request_of.Statement.{statement}
-use Rattle.vurelika.proofs.mode.plain_request_of.Tie as tie
+use Rattle.numbers.proofs.asked.plain_request_of.Statement.{statement}
+use Rattle.numbers.proofs.asked.plain_request_of.Tie as tie
 
 request-of-requires : tie.Need-request-of-requires
 request-of-requires c κs = search needs

@@ -1,11 +1,11 @@
--- `vurelika::mode::mode_of` meets its contract.
+-- `numbers::asked::mode_of` meets its contract.
 use Prim.Native.Nat.{ℕ}
 use mathlib.Core.Path.{_≡_, sym, ap}
 use lib.Ieee.{Float}
 use borrow.Author.Tests.{ne-eqb}
-use Rattle.vurelika.specs.Door.{modeOf}
-use Rattle.vurelika.proofs.mode.mode_of.Statement.{statement}
-use Rattle.vurelika.proofs.mode.mode_of.Tie as tie
+use Rattle.numbers.specs.Numbers.{modeOf}
+use Rattle.numbers.proofs.asked.mode_of.Statement.{statement}
+use Rattle.numbers.proofs.asked.mode_of.Tie as tie
 
 -- a number that the code found is the definition's
 numbered : (fill : Float) {mode n : ℕ} → mode ≡ n → modeOf n fill ≡ modeOf mode fill

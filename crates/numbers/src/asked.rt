@@ -1,10 +1,10 @@
 // The request that a caller's numbers make.
 ghost use mathlib.Core.Path.{_≡_};
-ghost use Rattle.vurelika.specs.Door.{isMode, modeOf, requestOf, plainRequestOf};
+ghost use Rattle.numbers.specs.Numbers.{isMode, modeOf, requestOf, plainRequestOf};
 use border::BorderMode;
 use request::Request;
 
-pub(crate) fn is_mode(mode: u32) -> bool
+pub fn is_mode(mode: u32) -> bool
     ensures { λ r. ⌜ r ≡ isMode mode ⌝ }
 {
     mode < 5
@@ -22,7 +22,7 @@ fn mode_of(mode: u32, fill: f64) -> BorderMode
     }
 }
 
-pub(crate) fn request_of(
+pub fn request_of(
     d0: usize,
     d1: usize,
     d2: usize,
@@ -46,7 +46,7 @@ pub(crate) fn request_of(
 }
 
 // Without factors.
-pub(crate) fn plain_request_of(
+pub fn plain_request_of(
     d0: usize,
     d1: usize,
     d2: usize,

@@ -2,17 +2,14 @@
 ghost use mathlib.Core.Path.{_≡_};
 ghost use lib.ListN.{length};
 ghost use Rattle.resample.specs.Call.{numberIn, countsIn};
-ghost use Rattle.vurelika.specs.Door.{places, tally, cleared};
+ghost use Rattle.numbers.specs.Numbers.{places, tally, cleared};
 use coverage::counts::Counts;
 use resample::Answer;
 use resample::counts_in;
 use resample::number_in;
 
 // The places of `counts`: one for each code.
-pub(crate) const PLACES: usize = 3;
-
-// The answer to a mode that has no number here.
-pub(crate) const UNKNOWN_MODE: u32 = 255;
+pub const PLACES: usize = 3;
 
 fn put(counts: &mut [u64], c: Counts)
     requires { ⌜ length (now counts) ≡ places ⌝ }
@@ -24,7 +21,7 @@ fn put(counts: &mut [u64], c: Counts)
 }
 
 // The answer's number; its counts are written.
-pub(crate) fn report(counts: &mut [u64], answer: Answer) -> u32
+pub fn report(counts: &mut [u64], answer: Answer) -> u32
     requires { ⌜ length (now counts) ≡ places ⌝ }
     ensures { λ status. ⌜ (status ≡ numberIn answer) × (now (counts .exit) ≡ tally (countsIn answer)) ⌝ }
 {
@@ -33,7 +30,7 @@ pub(crate) fn report(counts: &mut [u64], answer: Answer) -> u32
 }
 
 // Three zeros, where there are three places.
-pub(crate) fn clear(counts: &mut [u64])
+pub fn clear(counts: &mut [u64])
     ensures { λ _. ⌜ now (counts .exit) ≡ cleared (now (counts .entry)) ⌝ }
 {
     if counts.len() == PLACES {

@@ -1,12 +1,12 @@
--- `vurelika::report::put` meets its contract: what was in the three places is gone.
+-- `numbers::told::put` meets its contract: what was in the three places is gone.
 use Prim.Native.Nat.{ℕ}
 use native.Mathlib.Omega.{arith}
 use mathlib.Core.Path.{_≡_, refl}
 use mathlib.Core.List.{List, [], _∷_}
 use lib.ListN.{length, set}
 use borrow.Author.Needs.{needs}
-use Rattle.vurelika.proofs.report.put.Statement.{statement}
-use Rattle.vurelika.proofs.report.put.Tie as tie
+use Rattle.numbers.proofs.told.put.Statement.{statement}
+use Rattle.numbers.proofs.told.put.Tie as tie
 
 three : (l : List ℕ) {a b c : ℕ} → length l ≡ 3 → set (set (set l 0 a) 1 b) 2 c ≡ a ∷ b ∷ c ∷ []
 three [] e = absurd (omega arith)

@@ -1,7 +1,7 @@
--- `vurelika::mode::request_of` meets its contract.
+-- `numbers::asked::request_of` meets its contract.
 use borrow.Author.Needs.{needs}
-use Rattle.vurelika.proofs.mode.request_of.Statement.{statement}
-use Rattle.vurelika.proofs.mode.request_of.Tie as tie
+use Rattle.numbers.proofs.asked.request_of.Statement.{statement}
+use Rattle.numbers.proofs.asked.request_of.Tie as tie
 
 mode-of-requires : tie.Need-mode-of-requires
 mode-of-requires c κs = search needs

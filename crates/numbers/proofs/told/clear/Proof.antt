@@ -1,11 +1,11 @@
--- `vurelika::report::clear` meets its contract.
+-- `numbers::told::clear` meets its contract.
 use mathlib.Core.Path.{ap, _∙_}
 use borrow.Author.Tests.{eq-eqb, ne-eqb}
 use Rattle.coverage.specs.declared.counts.Counts.{Counts}
-use Rattle.vurelika.specs.Door.{tally, cleared}
+use Rattle.numbers.specs.Numbers.{tally, cleared}
 use borrow.Author.Needs.{needs}
-use Rattle.vurelika.proofs.report.clear.Statement.{statement}
-use Rattle.vurelika.proofs.report.clear.Tie as tie
+use Rattle.numbers.proofs.told.clear.Statement.{statement}
+use Rattle.numbers.proofs.told.clear.Tie as tie
 
 none-requires : tie.Need-none-requires
 none-requires c κs = search needs

@@ -1,10 +1,10 @@
--- `vurelika::report::report` meets its contract.
+-- `numbers::told::report` meets its contract.
 use mathlib.Core.Path.{ap, _∙_}
 use Rattle.coverage.specs.declared.counts.Counts.{Counts}
-use Rattle.vurelika.specs.Door.{tally}
+use Rattle.numbers.specs.Numbers.{tally}
 use borrow.Author.Needs.{needs}
-use Rattle.vurelika.proofs.report.report.Statement.{statement}
-use Rattle.vurelika.proofs.report.report.Tie as tie
+use Rattle.numbers.proofs.told.report.Statement.{statement}
+use Rattle.numbers.proofs.told.report.Tie as tie
 
 counts-in-requires : tie.Need-counts-in-requires
 counts-in-requires c κs = search needs

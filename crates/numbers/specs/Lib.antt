@@ -1,0 +1,2 @@
+-- What the numbers of a C caller mean.
+pub mod Numbers
