@@ -1,10 +1,12 @@
-//! One call, put to both sides: to the library through its door for C, and to the Rust's own
-//! sources over the oracle's containers.
+//! One call, put to each side: to the library through its door for C, to the Rust's own sources
+//! over the oracle's containers, and to SciPy if it is there.
 
 mod call;
 mod ours;
+mod scipy;
 mod theirs;
 
 pub use call::{Call, Entry};
 pub use ours::Lent;
+pub use scipy::SciPy;
 pub use theirs::voxels_of;
