@@ -1,28 +1,9 @@
 //! The library, through its door for C.
 
 use ndarray_ndimage::BorderMode;
+use vurelika_sys::{vurelika_shift, vurelika_zoom};
 
 use crate::call::{Call, Entry};
-
-/// Functions of the door that take what `shift` takes.
-macro_rules! door {
-    ($($name:ident),*) => {
-        extern "C" {
-            $(fn $name(
-                d0: usize, d1: usize, d2: usize,
-                f0: f64, f1: f64, f2: f64,
-                order: usize, prefilter: u32, mode: u32, fill: f64,
-                input: *const f64, input_len: usize,
-                output: *mut f64, output_len: usize,
-                coverage: *mut u8, coverage_len: usize,
-                work: *mut f64, work_len: usize,
-                counts: *mut u64, counts_len: usize,
-            ) -> u32;)*
-        }
-    };
-}
-
-door!(vurelika_shift, vurelika_zoom);
 
 fn mode_and_fill(mode: BorderMode<f64>) -> (u32, f64) {
     match mode {

@@ -13,8 +13,8 @@ use crate::words::after;
 use crate::words::float_at;
 use crate::words::whole_at;
 use border::BorderMode;
-use prefilter::volume::filter_axis;
-use prefilter::volume::filter_volume;
+use prefilter::filter_axis;
+use prefilter::filter_volume;
 
 // The lengths that axes have here.
 fn is_short(n: usize) -> bool

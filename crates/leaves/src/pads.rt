@@ -11,7 +11,7 @@ use crate::replay::refused;
 use crate::replay::skip;
 use crate::words::whole_at;
 use crate::words::word_at;
-use prefilter::edge::pad;
+use edge::pad;
 
 // How many voxels the padded volume has.
 fn padded_count(a: usize, b: usize, c: usize) -> usize

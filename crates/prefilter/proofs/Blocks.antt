@@ -9,10 +9,10 @@ use lib.ListN.{length, take, drop, drop-of-length-le}
 use lib.Seq.{length-take-le, take-all, take-at, drop-at, take-add, drop-drop}
 use lib.Ieee.{Float}
 use Rattle.lists.proofs.Stretches.{next, part-length}
-use Rattle.prefilter.specs.Volume.{filterAlong}
-use Rattle.prefilter.specs.Lanes.{Grid}
-use Rattle.prefilter.proofs.Grids.{stride-some}
-use Rattle.prefilter.proofs.Alongs.{length-along, along-part}
+use Rattle.lanes.specs.Along.{filterAlong}
+use Rattle.lanes.specs.Lanes.{Grid}
+use Rattle.lanes.proofs.Grids.{stride-some}
+use Rattle.lanes.proofs.Alongs.{length-along, along-part}
 
 -- block i of `blocks` lies within them
 pub within : (i blocks w : ℕ) → i < blocks → i * w + w ≤ blocks * w

@@ -1,8 +1,3 @@
--- The laws of lanes in a volume, of axes and of the pad.
-pub mod Grids
-pub mod Alongs
-pub mod Writing
-pub mod Replacements
+-- The laws of blocks of lanes and of axes.
 pub mod Blocks
 pub mod Axes
-pub mod Edges

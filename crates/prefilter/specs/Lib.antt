@@ -1,4 +1,2 @@
--- The prefilter: the filter of a volume, lane by lane and axis by axis, and the edge pad.
+-- The prefilter: the filter of a volume, axis by axis.
 pub mod Volume
-pub mod Lanes
-pub mod Edge

@@ -1,29 +1,15 @@
--- "Prefilter: axes 0, 1, 2 in turn." The lanes of an axis in a volume, and a filter along them.
-use Prim.Native.Nat.{ℕ, _+_, _-_, _*_, _/_, _%_, _≤_, _<_}
+-- "Prefilter: axes 0, 1, 2 in turn." The axes of a volume, and the filter along them.
+use Prim.Native.Nat.{ℕ, _*_, _≤_, _<_}
 use mathlib.Core.List.{List}
 use mathlib.Core.Path.{_≡_}
 use mathlib.Core.Bool.{cond}
 use lib.Dec.{eqb}
-use lib.ListN.{length, getD}
+use lib.ListN.{getD}
 use lib.Ieee.{Float}
 use Rattle.border.specs.declared.BorderMode.{BorderMode}
-use Rattle.lists.specs.Tabulate.{tabulate}
 use Rattle.poles.specs.Poles.{polesOf, gainOf}
-use Rattle.lane.specs.Lane.{at, reflects, filterLane}
-
--- the n numbers from place `start` on, `stride` apart
-unfoldable pub laneOf : ℕ → ℕ → ℕ → List Float → List Float
-unfolding tabulate
-laneOf n stride start xs = tabulate n (λ i. at xs (start + i * stride))
-
--- how far along its lane place m stands
-abbrev pub along : ℕ → ℕ → ℕ → ℕ
-along n stride m = m / stride % n
-
--- f applied to each lane
-unfoldable pub filterAlong : (List Float → List Float) → ℕ → ℕ → List Float → List Float
-unfolding laneOf tabulate
-filterAlong f n stride xs = tabulate (length xs) (λ m. at (f (laneOf n stride (m - along n stride m * stride) xs)) (along n stride m))
+use Rattle.lane.specs.Lane.{reflects, filterLane}
+use Rattle.lanes.specs.Along.{filterAlong}
 
 -- an axis: its length, and how far apart its numbers stand
 abbrev pub lengthOf : ℕ → List ℕ → ℕ

@@ -8,7 +8,7 @@ use Rattle.exact.specs.Rounded.{num}
 use Rattle.border.specs.declared.BorderMode.the-variants.{Constant}
 use Rattle.voxels.specs.Voxel.{values}
 use Rattle.request.specs.declared.Request.{Request}
-use Rattle.request.specs.Refusals.{badLengths, badFactors, someWild, besideAny}
+use Rattle.request.specs.Conditions.{badLengths, badFactors, someWild, besideAny}
 use Rattle.resample.specs.Call.{coefficients, shiftCall}
 
 abbrev still : Request

@@ -17,7 +17,8 @@ use Rattle.lists.proofs.Somes.{some-none}
 use Rattle.prefilter.specs.Volume.{countOf}
 use Rattle.request.specs.declared.Request.{Request}
 use Rattle.request.specs.Sizes.{sourceDims, needed}
-use Rattle.request.specs.Refusals.{badLengths, badShift, badFactors, tooLarge, wrong, tooShort, wildFill, someWild, shiftChecks}
+use Rattle.request.specs.Conditions.{badLengths, badShift, badFactors, tooLarge, wrong, tooShort, wildFill, someWild}
+use Rattle.refusal.specs.Refusals.{shiftChecks}
 use Rattle.promises.specs.Given.{holds}
 use Rattle.promises.specs.Moves.{Whole}
 use Rattle.promises.proofs.WholeRequest.{no-filter}

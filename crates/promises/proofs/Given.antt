@@ -11,11 +11,11 @@ use lib.Ieee.{Float}
 use borrow.Author.Tests.{eqb-true, eqb-false, eq-eqb, ne-eqb, ltb-true, ltb-false}
 use Rattle.request.specs.declared.Axes.{Axes}
 use Rattle.request.specs.declared.Request.{Request}
-use Rattle.request.specs.declared.refusal.Refusal.{Refusal}
-use Rattle.request.specs.declared.refusal.Refusal.the-variants.{Order, AxisNumber, Length, Factor, OutputLength, Count, Buffer, Value, Beside}
-use Rattle.request.specs.declared.refusal.Verdict.{Verdict}
-use Rattle.request.specs.declared.refusal.Verdict.the-variants.{Passed, Refused}
-use Rattle.request.specs.Refusals.{Check, first, numberOf, numberBy}
+use Rattle.refusal.specs.declared.Refusal.{Refusal}
+use Rattle.refusal.specs.declared.Refusal.the-variants.{Order, AxisNumber, Length, Factor, OutputLength, Count, Buffer, Value, Beside}
+use Rattle.refusal.specs.declared.Verdict.{Verdict}
+use Rattle.refusal.specs.declared.Verdict.the-variants.{Passed, Refused}
+use Rattle.refusal.specs.Refusals.{Check, first, numberOf, numberBy}
 use Rattle.resample.specs.Call.{callBy, numberIn, filterCallBy, shiftCall, zoomCall, splineFilterCall, splineFilter1dCall}
 use Rattle.promises.specs.Entries.{Entry, shifting, zooming, Filter, whole, along, call, checks, axesOf, filterCall, filterChecks}
 use Rattle.promises.specs.Given.{holds, FirstToHold}

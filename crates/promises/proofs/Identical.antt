@@ -4,7 +4,7 @@ use mathlib.Core.Path.{_≡_, sym, ap, _∙_}
 use mathlib.Core.List.{List}
 use lib.Ieee.{Float}
 use Rattle.request.specs.declared.Request.{Request}
-use Rattle.request.specs.declared.refusal.Verdict.{Verdict}
+use Rattle.refusal.specs.declared.Verdict.{Verdict}
 use Rattle.resample.specs.declared.Answer.{Answer}
 use Rattle.resample.specs.Call.{Call, FilterCall, callOf, filterCallOf}
 use Rattle.promises.specs.Entries.{Entry, Filter, call, filterCall}

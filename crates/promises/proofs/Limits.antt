@@ -11,7 +11,7 @@ use Rattle.axis.specs.Length.{outputLength}
 use Rattle.axis.specs.Neighbours.{firstNeighbour}
 use Rattle.axis.specs.Point.{besideAt}
 use Rattle.axis.specs.Weights.{base}
-use Rattle.request.specs.Refusals.{someBeside}
+use Rattle.request.specs.Conditions.{someBeside}
 use Rattle.promises.specs.Limits.{sides, right}
 
 pub sides-right : T (every right sides)

@@ -12,7 +12,7 @@ use Rattle.border.specs.declared.BorderMode.the-variants.{Constant}
 use Rattle.coverage.specs.Coverage.{keptAt, codeAt, codeBy, dropCode, dropValue}
 use Rattle.voxels.specs.Voxel.{tapOf, computed, voxelAt}
 use Rattle.request.specs.declared.Request.{Request}
-use Rattle.request.specs.Refusals.{shiftChecks}
+use Rattle.refusal.specs.Refusals.{shiftChecks}
 use Rattle.resample.specs.Call.{numberIn, coefficients, shiftCall}
 use Rattle.promises.specs.Entries.{shifting, outputDims}
 use Rattle.promises.specs.Given.{holds}

@@ -9,7 +9,7 @@ use mathlib.Core.List.{List}
 use lib.ListN.{length}
 use lib.Ieee.{Float}
 use Rattle.request.specs.declared.Request.{Request}
-use Rattle.request.specs.Refusals.{Check}
+use Rattle.refusal.specs.Refusals.{Check}
 use Rattle.resample.specs.Call.{numberIn}
 use Rattle.promises.specs.Entries.{Entry, call, checks}
 use Rattle.promises.specs.Given.{holds}

@@ -6,9 +6,9 @@ use lib.ListN.{length}
 use lib.Ieee.{Float}
 use Rattle.request.specs.declared.Axes.{Axes}
 use Rattle.request.specs.declared.Request.{Request}
-use Rattle.request.specs.declared.refusal.Verdict.{Verdict}
-use Rattle.request.specs.declared.refusal.Verdict.the-variants.{Passed, Refused}
-use Rattle.request.specs.Refusals.{first, numberBy}
+use Rattle.refusal.specs.declared.Verdict.{Verdict}
+use Rattle.refusal.specs.declared.Verdict.the-variants.{Passed, Refused}
+use Rattle.refusal.specs.Refusals.{first, numberBy}
 use Rattle.coverage.specs.Coverage.{none}
 use Rattle.resample.specs.Call.{Call, callBy, numberIn, countsIn, filterCallBy, shiftCall, zoomCall, splineFilterCall, splineFilter1dCall}
 use Rattle.promises.specs.Entries.{Entry, shifting, zooming, Filter, whole, along, call, checks, axesOf, filterCall, filterChecks}

@@ -13,7 +13,8 @@ use Rattle.border.specs.declared.BorderMode.the-variants.{Constant}
 use Rattle.prefilter.specs.Volume.{countOf}
 use Rattle.request.specs.declared.Request.{Request}
 use Rattle.request.specs.Sizes.{needed}
-use Rattle.request.specs.Refusals.{badLengths, tooLarge, wild, wildFill, someWild, shiftChecks}
+use Rattle.request.specs.Conditions.{badLengths, tooLarge, wild, wildFill, someWild}
+use Rattle.refusal.specs.Refusals.{shiftChecks}
 use Rattle.request.proofs.Requests.{none-at, or-false}
 use Rattle.resample.specs.Call.{Call, numberIn, shiftCall}
 use Rattle.promises.specs.Given.{holds}

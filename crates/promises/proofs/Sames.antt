@@ -17,7 +17,7 @@ use Rattle.exact.proofs.Tests.{or-split, or-l, or-r}
 use Rattle.exact.proofs.Unique.{meet}
 use Rattle.exact.proofs.Floors.{tests-of-bounded}
 use Rattle.exact.proofs.Withins.{within-of-tests}
-use Rattle.request.specs.Refusals.{wild}
+use Rattle.request.specs.Conditions.{wild}
 use Rattle.request.proofs.Requests.{not-both}
 
 -- ---- two finite floats: their sizes, each by the other's denominator, and their signs

@@ -11,7 +11,7 @@ use Rattle.exact.specs.Whole.{Is}
 use Rattle.exact.specs.Same.{Same}
 use Rattle.border.specs.declared.BorderMode.the-variants.{Constant}
 use Rattle.request.specs.declared.Request.{Request}
-use Rattle.request.specs.Refusals.{shiftChecks}
+use Rattle.refusal.specs.Refusals.{shiftChecks}
 use Rattle.resample.specs.Call.{numberIn, shiftCall}
 use Rattle.promises.specs.Given.{holds}
 use Rattle.promises.specs.Place.{Inside, voxel, code}

@@ -5,9 +5,9 @@ use mathlib.Core.List.{List}
 use lib.ListN.{length}
 use lib.Ieee.{Float}
 use Rattle.request.specs.declared.Request.{Request}
-use Rattle.request.specs.declared.refusal.Verdict.{Verdict}
-use Rattle.request.specs.declared.refusal.Verdict.the-variants.{Passed, Refused}
-use Rattle.request.specs.Refusals.{first, numberBy}
+use Rattle.refusal.specs.declared.Verdict.{Verdict}
+use Rattle.refusal.specs.declared.Verdict.the-variants.{Passed, Refused}
+use Rattle.refusal.specs.Refusals.{first, numberBy}
 use Rattle.resample.specs.Call.{Passes, success, callBy, numberIn, shiftCall, zoomCall}
 use Rattle.resample.proofs.Admitting.{shift-passes, zoom-passes}
 use Rattle.promises.specs.Entries.{Entry, shifting, zooming, call, checks, axesOf}

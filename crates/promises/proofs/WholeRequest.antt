@@ -22,7 +22,8 @@ use Rattle.coverage.specs.Coverage.{keptAt}
 use Rattle.prefilter.specs.Volume.{filterVolume}
 use Rattle.request.specs.declared.Request.{Request}
 use Rattle.request.specs.Sizes.{filters, padding, sourceDims, Lengths}
-use Rattle.request.specs.Refusals.{wild, wildFill, someWild, someBeside, besideAny, shiftChecks}
+use Rattle.request.specs.Conditions.{wild, wildFill, someWild, someBeside, besideAny}
+use Rattle.refusal.specs.Refusals.{shiftChecks}
 use Rattle.request.proofs.Requests.{none-at, or-false, not-both, good-lengths}
 use Rattle.resample.specs.Call.{numberIn, sourceOf, coefficients, shiftCall}
 use Rattle.promises.specs.Entries.{shifting}

@@ -5,7 +5,7 @@ use lib.Ieee.{Float}
 use Rattle.request.specs.declared.Axes.{Axes}
 use Rattle.request.specs.declared.Request.{Request}
 use Rattle.request.specs.Sizes.{shiftAxes, zoomAxes}
-use Rattle.request.specs.Refusals.{Check, shiftChecks, zoomChecks, splineFilterChecks, splineFilter1dChecks}
+use Rattle.refusal.specs.Refusals.{Check, shiftChecks, zoomChecks, splineFilterChecks, splineFilter1dChecks}
 use Rattle.resample.specs.Call.{Call, shiftCall, zoomCall, FilterCall, splineFilterCall, splineFilter1dCall}
 
 pub data Entry : Type 0 where

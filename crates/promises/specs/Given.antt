@@ -4,7 +4,7 @@ use mathlib.Core.Path.{_≡_}
 use mathlib.Core.Bool.{Bool, true, false, cond}
 use mathlib.Core.List.{List, [], _∷_}
 use lib.Dec.{eqb}
-use Rattle.request.specs.Refusals.{Check, numberOf}
+use Rattle.refusal.specs.Refusals.{Check, numberOf}
 
 -- whether refusal n's condition holds; it does not where the entry does not check it
 abbrev pub holds : List Check → ℕ → Bool

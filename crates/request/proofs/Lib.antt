@@ -1,3 +1,3 @@
--- The laws of requests and refusals.
-pub mod Refusing
+-- The laws of requests and of the conditions that refuse them.
+pub mod Deciding
 pub mod Requests

@@ -15,7 +15,7 @@ use Rattle.lists.proofs.Somes.{some-at}
 use Rattle.axis.specs.Coordinate.{isNearest}
 use Rattle.request.specs.declared.Request.{Request}
 use Rattle.request.specs.Sizes.{padding, sourceDims, Small, Lengths, Zoomed}
-use Rattle.request.specs.Refusals.{badLength, badLengths, badZoom, badFactors}
+use Rattle.request.specs.Conditions.{badLength, badLengths, badZoom, badFactors}
 
 -- ---- pads
 pub pad-most : (r : Request) {pad : ℕ} → pad ≡ padding r → pad ≤ 12

@@ -1,3 +1,3 @@
--- What a caller asks for, and which of the nine refusals it meets.
+-- What a caller asks for: its sizes, and the conditions of the refusals.
 pub mod Sizes
-pub mod Refusals
+pub mod Conditions

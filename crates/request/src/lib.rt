@@ -1,10 +1,9 @@
-// What a caller asks for, and which of the nine refusals it meets.
+// What a caller asks for, its sizes, and the conditions that refuse it.
 use axis::coordinate::Axis;
 use border::BorderMode;
 
-pub mod refusal;
+pub mod conditions;
 pub mod sizes;
-pub mod verdict;
 
 // `factors` are shifts or zoom factors, one for each axis.
 pub struct Request {

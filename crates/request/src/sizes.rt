@@ -10,7 +10,7 @@ use axis::coordinate::pad_of;
 use axis::coordinate::shift_axis;
 use axis::coordinate::zoom_axis;
 
-pub(crate) fn count_of(d: [usize; 3]) -> usize
+pub fn count_of(d: [usize; 3]) -> usize
     requires { ⌜ Small d ⌝ }
     ensures { λ r. ⌜ r ≡ countOf d ⌝ }
 {

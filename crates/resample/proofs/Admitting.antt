@@ -18,14 +18,15 @@ use Rattle.request.specs.declared.Request.{Request}
 use Rattle.coverage.specs.declared.counts.Counts.{Counts}
 use Rattle.resample.specs.declared.Answer.the-variants as answer
 use Rattle.resample.specs.declared.Answer.the-variants.{Done}
-use Rattle.request.specs.declared.refusal.Refusal.{Refusal}
-use Rattle.request.specs.declared.refusal.Verdict.{Verdict}
-use Rattle.request.specs.declared.refusal.Verdict.the-variants.{Passed, Refused}
+use Rattle.refusal.specs.declared.Refusal.{Refusal}
+use Rattle.refusal.specs.declared.Verdict.{Verdict}
+use Rattle.refusal.specs.declared.Verdict.the-variants.{Passed, Refused}
 use Rattle.request.specs.Sizes.{needed, padding, zoomDims, shiftAxes, zoomAxes, Lengths, Zoomed}
-use Rattle.request.specs.Refusals.{first, wrong, badShift, badFactors, shiftChecks, zoomChecks}
+use Rattle.request.specs.Conditions.{wrong, badShift, badFactors}
+use Rattle.refusal.specs.Refusals.{first, shiftChecks, zoomChecks}
 use Rattle.voxels.specs.Table.{Reaches}
 use Rattle.resample.specs.Call.{Passes, callOf, callBy, success}
-use Rattle.request.proofs.Refusing.{all-clear}
+use Rattle.refusal.proofs.Firsts.{all-clear}
 use Rattle.request.proofs.Requests.{none-at, or-false, not-both, pad-most, good-lengths, good-zooms}
 
 -- ---- a shift that refusal 4 lets pass

@@ -9,13 +9,13 @@ use lib.Ieee.{Float}
 use borrow.Author.Tests.{ltb-false, eqb-true, not-false}
 use Rattle.prefilter.specs.Volume.{countOf, Sized}
 use Rattle.request.specs.declared.Request.{Request}
-use Rattle.request.specs.declared.refusal.Refusal.{Refusal}
-use Rattle.request.specs.declared.refusal.Verdict.{Verdict}
-use Rattle.request.specs.declared.refusal.Verdict.the-variants.{Passed, Refused}
+use Rattle.refusal.specs.declared.Refusal.{Refusal}
+use Rattle.refusal.specs.declared.Verdict.{Verdict}
+use Rattle.refusal.specs.declared.Verdict.the-variants.{Passed, Refused}
 use Rattle.request.specs.Sizes.{Lengths}
-use Rattle.request.specs.Refusals.{first, filterChecks, splineFilterChecks, splineFilter1dChecks}
+use Rattle.refusal.specs.Refusals.{first, filterChecks, splineFilterChecks, splineFilter1dChecks}
 use Rattle.resample.specs.Call.{filterCallOf, filterCallBy}
-use Rattle.request.proofs.Refusing.{Clear, all-clear}
+use Rattle.refusal.proofs.Firsts.{Clear, all-clear}
 use Rattle.request.proofs.Requests.{or-false, good-lengths}
 
 -- ---- what the filters then know; the numbers are the lengths of the buffers

@@ -9,7 +9,7 @@ use lib.ListN.{getD, drop}
 use lib.Ieee.{Float}
 use borrow.Author.Tests.{eq-eqb, ne-eqb, ltb-true}
 use Rattle.axis.specs.Coordinate.{isNearest}
-use Rattle.prefilter.specs.Edge.{padded, paddedDims}
+use Rattle.edge.specs.Edge.{padded, paddedDims}
 use Rattle.prefilter.specs.Volume.{filterVolume, lengthOf, countOf, Sized}
 use Rattle.request.specs.declared.Request.{Request}
 use Rattle.request.specs.Sizes.{filters, padding, sourceDims, needed, Lengths}

@@ -6,17 +6,17 @@ use mathlib.Core.List.{List, _++_}
 use lib.Dec.{eqb, ltb}
 use lib.ListN.{length, drop}
 use lib.Ieee.{Float}
-use Rattle.prefilter.specs.Edge.{padded}
+use Rattle.edge.specs.Edge.{padded}
 use Rattle.prefilter.specs.Volume.{filterAxis, filterVolume, countOf}
 use Rattle.coverage.specs.declared.counts.Counts.{Counts}
 use Rattle.resample.specs.declared.Answer.{Answer}
 use Rattle.resample.specs.declared.Answer.the-variants as answer
-use Rattle.request.specs.declared.refusal.Verdict.{Verdict}
-use Rattle.request.specs.declared.refusal.Verdict.the-variants as verdict
+use Rattle.refusal.specs.declared.Verdict.{Verdict}
+use Rattle.refusal.specs.declared.Verdict.the-variants as verdict
 use Rattle.request.specs.declared.Axes.{Axes}
 use Rattle.request.specs.declared.Request.{Request}
 use Rattle.request.specs.Sizes.{filters, padding, sourceDims, needed, shiftAxes, zoomAxes, Lengths}
-use Rattle.request.specs.Refusals.{numberOf, first, shiftChecks, zoomChecks, splineFilterChecks, splineFilter1dChecks}
+use Rattle.refusal.specs.Refusals.{numberOf, first, shiftChecks, zoomChecks, splineFilterChecks, splineFilter1dChecks}
 use Rattle.voxels.specs.Table.{Reaches}
 use Rattle.coverage.specs.Coverage.{codes, countsOf, none}
 use Rattle.voxels.specs.Voxel.{values}

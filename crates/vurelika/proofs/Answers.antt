@@ -10,11 +10,11 @@ use lib.Ieee.{Float}
 use borrow.Author.Tests.{ne-eqb}
 use Rattle.request.specs.declared.Axes.{Axes}
 use Rattle.request.specs.declared.Request.{Request}
-use Rattle.request.specs.declared.refusal.Refusal.{Refusal}
-use Rattle.request.specs.declared.refusal.Refusal.the-variants.{Order, AxisNumber, Length, Factor, OutputLength, Count, Buffer, Value, Beside}
-use Rattle.request.specs.declared.refusal.Verdict.{Verdict}
-use Rattle.request.specs.declared.refusal.Verdict.the-variants.{Passed, Refused}
-use Rattle.request.specs.Refusals.{numberOf, first, shiftChecks, zoomChecks, numberBy}
+use Rattle.refusal.specs.declared.Refusal.{Refusal}
+use Rattle.refusal.specs.declared.Refusal.the-variants.{Order, AxisNumber, Length, Factor, OutputLength, Count, Buffer, Value, Beside}
+use Rattle.refusal.specs.declared.Verdict.{Verdict}
+use Rattle.refusal.specs.declared.Verdict.the-variants.{Passed, Refused}
+use Rattle.refusal.specs.Refusals.{numberOf, first, shiftChecks, zoomChecks, numberBy}
 use Rattle.request.specs.Sizes.{shiftAxes, zoomAxes}
 use Rattle.coverage.specs.Coverage.{none}
 use Rattle.resample.specs.declared.Answer.{Answer}

@@ -7,11 +7,11 @@ use lib.ListN.{length}
 use lib.Ieee.{Float}
 use borrow.Author.Tests.{eq-eqb, ne-eqb}
 use Rattle.request.specs.declared.Request.{Request}
-use Rattle.request.specs.declared.refusal.Verdict.{Verdict}
+use Rattle.refusal.specs.declared.Verdict.{Verdict}
 use Rattle.resample.specs.declared.Answer.{Answer}
 use Rattle.resample.specs.declared.Answer.the-variants as answer
 use Rattle.resample.specs.Call.{Call, FilterCall, callOf, numberIn, countsIn, filterCallOf}
-use Rattle.request.specs.Refusals.{numberBy}
+use Rattle.refusal.specs.Refusals.{numberBy}
 use Rattle.numbers.specs.Numbers.{isMode, places, tally, cleared}
 use Rattle.vurelika.specs.Door.{unknownMode, Entry, doorOf, answered, doorBy, filterDoorOf, filterDoorBy}
 use Rattle.vurelika.proofs.Empty.{EmptyRefused}

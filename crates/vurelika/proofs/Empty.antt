@@ -12,13 +12,14 @@ use borrow.Author.Tests.{ne-eqb}
 use Rattle.prefilter.specs.Volume.{countOf}
 use Rattle.request.specs.declared.Axes.{Axes}
 use Rattle.request.specs.declared.Request.{Request}
-use Rattle.request.specs.declared.refusal.Refusal.{Refusal}
-use Rattle.request.specs.declared.refusal.Refusal.the-variants.{Buffer, Value, Beside}
-use Rattle.request.specs.declared.refusal.Verdict.{Verdict}
-use Rattle.request.specs.declared.refusal.Verdict.the-variants.{Passed, Refused}
+use Rattle.refusal.specs.declared.Refusal.{Refusal}
+use Rattle.refusal.specs.declared.Refusal.the-variants.{Buffer, Value, Beside}
+use Rattle.refusal.specs.declared.Verdict.{Verdict}
+use Rattle.refusal.specs.declared.Verdict.the-variants.{Passed, Refused}
 use Rattle.request.specs.Sizes.{needed, zoomDims, shiftAxes, zoomAxes, Lengths}
-use Rattle.request.specs.Refusals.{Check, numberOf, first, wrong, wildFill, someWild, besideAny, resampleChecks, shiftChecks, zoomChecks, numberBy}
-use Rattle.request.proofs.Refusing.{skip, stop}
+use Rattle.request.specs.Conditions.{wrong, wildFill, someWild, besideAny}
+use Rattle.refusal.specs.Refusals.{Check, numberOf, first, resampleChecks, shiftChecks, zoomChecks, numberBy}
+use Rattle.refusal.proofs.Firsts.{skip, stop}
 use Rattle.request.proofs.Requests.{good-lengths}
 use Rattle.resample.specs.declared.Answer.the-variants as answer
 use Rattle.resample.specs.Call.{Call, callOf, callBy, numberIn, shiftCall, zoomCall}

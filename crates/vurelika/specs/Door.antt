@@ -9,7 +9,8 @@ use Rattle.exact.specs.Rounded.{num}
 use Rattle.axis.specs.Length.{outputLength}
 use Rattle.request.specs.declared.Request.{Request}
 use Rattle.request.specs.Sizes.{needed}
-use Rattle.request.specs.Refusals.{numberBy, badOrder, badLength, badLengths, badZoom}
+use Rattle.request.specs.Conditions.{badOrder, badLength, badLengths, badZoom}
+use Rattle.refusal.specs.Refusals.{numberBy}
 use Rattle.numbers.specs.Numbers.{isMode, plainRequestOf, places, tally, cleared}
 use Rattle.resample.specs.Call.{Call, FilterCall, numberIn, countsIn}
 

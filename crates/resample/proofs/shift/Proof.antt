@@ -2,9 +2,9 @@
 use mathlib.Core.Path.{_≡_, _∙_, sym, subst}
 use lib.ListN.{length}
 use Rattle.request.specs.declared.Axes.{Axes}
-use Rattle.request.specs.declared.refusal.Verdict.the-variants.{Passed}
+use Rattle.refusal.specs.declared.Verdict.the-variants.{Passed}
 use Rattle.request.specs.Sizes.{shiftAxes}
-use Rattle.request.specs.Refusals.{first, shiftChecks}
+use Rattle.refusal.specs.Refusals.{first, shiftChecks}
 use Rattle.resample.specs.Call.{Passes, shiftCall}
 use Rattle.resample.proofs.Admitting.{shift-passes, call-passed, call-refused}
 use borrow.Author.Needs.{needs}

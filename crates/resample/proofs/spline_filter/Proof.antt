@@ -6,8 +6,8 @@ use lib.ListN.{length}
 use lib.Ieee.{Float}
 use borrow.Author.Needs.{needs}
 use Rattle.prefilter.specs.Volume.{filterVolume}
-use Rattle.request.specs.declared.refusal.Verdict.the-variants.{Passed}
-use Rattle.request.specs.Refusals.{first, splineFilterChecks}
+use Rattle.refusal.specs.declared.Verdict.the-variants.{Passed}
+use Rattle.refusal.specs.Refusals.{first, splineFilterChecks}
 use Rattle.resample.specs.Call.{splineFilterCall}
 use Rattle.resample.proofs.Filtering.{Filters, volume-admitted, as-long, sized, answer-passed, answer-refused}
 use Rattle.resample.proofs.spline_filter.Statement.{statement}

@@ -7,8 +7,8 @@ use lib.Ieee.{Float}
 use borrow.Author.Tests.{lt-ltb, le-ltb}
 use borrow.Author.Needs.{needs}
 use Rattle.prefilter.specs.Volume.{filterAxis}
-use Rattle.request.specs.declared.refusal.Verdict.the-variants.{Passed}
-use Rattle.request.specs.Refusals.{first, splineFilter1dChecks}
+use Rattle.refusal.specs.declared.Verdict.the-variants.{Passed}
+use Rattle.refusal.specs.Refusals.{first, splineFilter1dChecks}
 use Rattle.resample.specs.Call.{splineFilter1dCall}
 use Rattle.resample.proofs.Filtering.{Filters, axis-admitted, as-long, sized, answer-passed, answer-refused, done, left}
 use Rattle.resample.proofs.spline_filter1d.Statement.{statement}

@@ -4,9 +4,9 @@ use mathlib.Core.Path.{_≡_, _∙_, sym, subst}
 use mathlib.Core.List.{List}
 use lib.ListN.{length}
 use Rattle.request.specs.declared.Axes.{Axes}
-use Rattle.request.specs.declared.refusal.Verdict.the-variants.{Passed}
+use Rattle.refusal.specs.declared.Verdict.the-variants.{Passed}
 use Rattle.request.specs.Sizes.{zoomDims, zoomAxes, Lengths, Zoomed}
-use Rattle.request.specs.Refusals.{first, zoomChecks}
+use Rattle.refusal.specs.Refusals.{first, zoomChecks}
 use Rattle.resample.specs.Call.{Passes, zoomCall}
 use Rattle.resample.proofs.Admitting.{zoom-passes, zoom-ready, call-passed, call-refused}
 use borrow.Author.Needs.{needs}

@@ -7,7 +7,7 @@ use lib.Ieee.{Float, lt, le}
 use borrow.Author.Tests.{ltb-false}
 use Rattle.axis.specs.Length.{Zooms}
 use Rattle.exact.specs.Rounded.{num}
-use Rattle.request.specs.Refusals.{badLength, badZoom}
+use Rattle.request.specs.Conditions.{badLength, badZoom}
 use Rattle.request.proofs.Requests.{or-false, not-both}
 use Rattle.vurelika.specs.Door.{zoomLength}
 use borrow.Author.Needs.{needs}

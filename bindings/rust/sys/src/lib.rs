@@ -1,0 +1,37 @@
+//! The functions of libvurelika.a. include/vurelika.h says what each takes, returns and leaves.
+
+/// Functions that take what `shift` takes.
+macro_rules! resamplers {
+    ($($name:ident),*) => {
+        extern "C" {
+            $(pub fn $name(
+                d0: usize, d1: usize, d2: usize,
+                f0: f64, f1: f64, f2: f64,
+                order: usize, prefilter: u32, mode: u32, fill: f64,
+                input: *const f64, input_len: usize,
+                output: *mut f64, output_len: usize,
+                coverage: *mut u8, coverage_len: usize,
+                work: *mut f64, work_len: usize,
+                counts: *mut u64, counts_len: usize,
+            ) -> u32;)*
+        }
+    };
+}
+
+resamplers!(vurelika_shift, vurelika_zoom);
+
+#[rustfmt::skip]
+extern "C" {
+    pub fn vurelika_spline_filter(
+        d0: usize, d1: usize, d2: usize, order: usize, mode: u32, fill: f64,
+        input: *const f64, input_len: usize, output: *mut f64, output_len: usize,
+    ) -> u32;
+    pub fn vurelika_spline_filter1d(
+        d0: usize, d1: usize, d2: usize, order: usize, axis: usize, mode: u32, fill: f64,
+        input: *const f64, input_len: usize, output: *mut f64, output_len: usize,
+    ) -> u32;
+    pub fn vurelika_zoom_length(length: usize, factor: f64) -> usize;
+    pub fn vurelika_work_count(
+        d0: usize, d1: usize, d2: usize, order: usize, prefilter: u32, mode: u32,
+    ) -> usize;
+}

@@ -1,0 +1,2 @@
+-- The laws of the pad.
+pub mod Edges

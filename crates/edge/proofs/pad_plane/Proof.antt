@@ -1,0 +1,147 @@
+-- `edge::pad_plane` meets its contract: the first j rows are those of the padded plane.
+use Prim.Native.Nat.{_+_, _*_, _-_, _≤_, _<_}
+use mathlib.Core.Path.{_≡_, _∙_}
+use native.Mathlib.Omega.{arith}
+use native.Mathlib.Nat.{le-mul-of-pos-right}
+use lib.ListN.{length, take, drop}
+use Rattle.edge.specs.Edge.{clamped}
+use Rattle.prefilter.proofs.Blocks.{within, lent}
+use Rattle.edge.proofs.Edges.{Copied, none-copied, next-copied, clamped-within, at-row, is-plane}
+use Rattle.edge.proofs.pad_plane.Statement.{statement}
+use Rattle.edge.proofs.pad_plane.Tie as tie
+
+abbrev Inv-loop : tie.InvT-loop
+Inv-loop to₀ from rows row wide j₀ to j = (j ≤ rows + 24) × Copied rows row (row + 24) (clamped row) from (length to₀) j to
+
+abbrev μ-loop : tie.MeasureT-loop
+μ-loop to₀ from rows row wide j₀ to j = rows + 24 - j
+
+abbrev start : tie.In-loop Inv-loop μ-loop → tie.Start Inv-loop μ-loop
+start c = c .before .before .before .before
+
+-- ---- the row that is written and the one that is read lie in their planes
+target : (c : tie.In-loop Inv-loop μ-loop) → let s = start c in c .before .loop .j * (s .args .row + 24) + (s .args .row + 24) ≤ length (s .args .to .now)
+target c = omega (arith, within (c .before .loop .j) (start c .args .rows + 24) (start c .args .row + 24) (omega arith))
+
+source : (c : tie.After-clamp Inv-loop μ-loop) → let s = start (c .before) in c .clamp .result * s .args .row + s .args .row ≤ length (s .args .from .now)
+source c =
+    let s = start (c .before) in
+    let low : c .clamp .result < s .args .rows = rw (c .clamp .ensures) (clamped-within _ _ (s .pre .0 .0)) in
+    omega (arith, within (c .clamp .result) (s .args .rows) (s .args .row) low)
+
+add-wide : tie.Need-add-wide Inv-loop μ-loop
+add-wide c =
+    let a = c .before .before .args in
+    omega (arith, within 0 (a .rows + 24) (a .row + 24) (omega arith))
+
+loop-holds : tie.Need-loop-holds Inv-loop μ-loop
+loop-holds c = (omega arith, none-copied _ _ _ _ _ _)
+
+add-loop : tie.Need-add-loop Inv-loop μ-loop
+add-loop c =
+    let a = c .before .before .before .args in
+    let fewer : a .rows + 24 ≤ (a .rows + 24) * (a .row + 24) = le-mul-of-pos-right (a .rows + 24) (omega arith) in
+    omega arith
+
+mul-t : tie.Need-mul-t Inv-loop μ-loop
+mul-t c = omega (arith, target c)
+
+clamp-requires : tie.Need-clamp-requires Inv-loop μ-loop
+clamp-requires c κs = start c .pre .0 .0
+
+mul-s : tie.Need-mul-s Inv-loop μ-loop
+mul-s c = omega (arith, source c)
+
+add-pad-row : tie.Need-add-pad-row Inv-loop μ-loop
+add-pad-row c = omega (arith, target (c .before))
+
+mul-pad-row : tie.Need-mul-pad-row Inv-loop μ-loop
+mul-pad-row c = omega (arith, target (c .before))
+
+sub-pad-row : tie.Need-sub-pad-row Inv-loop μ-loop
+sub-pad-row c = omega arith
+
+part-pad-row-start : tie.Need-part-pad-row-start Inv-loop μ-loop
+part-pad-row-start c = omega arith
+
+part-pad-row-end : tie.Need-part-pad-row-end Inv-loop μ-loop
+part-pad-row-end c = omega (arith, target (c .before), c .before .before .loop .inv .1 .same)
+
+add-pad-row-2 : tie.Need-add-pad-row-2 Inv-loop μ-loop
+add-pad-row-2 c = omega (arith, source (c .before))
+
+mul-pad-row-2 : tie.Need-mul-pad-row-2 Inv-loop μ-loop
+mul-pad-row-2 c = omega (arith, source (c .before))
+
+sub-pad-row-2 : tie.Need-sub-pad-row-2 Inv-loop μ-loop
+sub-pad-row-2 c = omega arith
+
+part-pad-row-start-2 : tie.Need-part-pad-row-start-2 Inv-loop μ-loop
+part-pad-row-start-2 c = omega arith
+
+part-pad-row-end-2 : tie.Need-part-pad-row-end-2 Inv-loop μ-loop
+part-pad-row-end-2 c = omega (arith, source (c .before))
+
+pad-row-requires : tie.Need-pad-row-requires Inv-loop μ-loop
+pad-row-requires c κs =
+    let clamp = c .before .before in
+    let t = clamp .before in
+    let a = start t .args in
+    let from = lent (a .from .now) (clamp .clamp .result * a .row) (a .row) (source clamp) in
+    let into = lent (t .before .loop .to) (t .before .loop .j * (a .row + 24)) (a .row + 24) (omega (arith, target t, t .before .loop .inv .1 .same)) in
+    (omega (arith, from, start t .pre .0 .1), omega (arith, from, into))
+
+add-j : tie.Need-add-j Inv-loop μ-loop
+add-j c = omega arith
+
+loop-less : tie.Need-loop-less Inv-loop μ-loop
+loop-less c = omega arith
+
+loop-again : tie.Need-loop-again Inv-loop μ-loop
+loop-again c =
+    let call = c .before .before .pad-row in
+    let clamp = c .before .before .before .before .before in
+    let t = clamp .before in
+    let a = start t .args in
+    let from = a .from .now in
+    let s = clamp .clamp .result * a .row in
+    (omega arith, next-copied (a .rows) (a .row) (a .row + 24) (clamped (a .row)) from (λ m h. clamped-within (a .row) m (start t .pre .0 .1)) _ _ _ _ _ _ (t .before .loop .inv .1) (target t) (clamp .clamp .ensures) (call .kept .0) (call .ensures) (at-row (a .row) (take (s + a .row - s) (drop s from)) (lent from s (a .row) (source clamp))))
+
+same-length : tie.Need-same-length Inv-loop μ-loop
+same-length c = c .before .loop .inv .1 .same
+
+returns : tie.Need-returns Inv-loop μ-loop
+returns c =
+    let s = c .before .before .before .before in
+    let here = c .before .loop in
+    let all : here .j ≡ s .args .rows + 24 = omega arith in
+    is-plane (s .args .rows) (s .args .row) (s .args .from .now) (here .to) (here .inv .1 .same ∙ s .pre .1 .1) (rw all at (here .inv .1 .filled))
+
+pub pad-plane-spec : {M : Type 1} → statement M
+pad-plane-spec =
+    tie.close
+    (tie.spec
+    Inv-loop
+    μ-loop
+    add-wide
+    loop-holds
+    add-loop
+    mul-t
+    clamp-requires
+    mul-s
+    add-pad-row
+    mul-pad-row
+    sub-pad-row
+    part-pad-row-start
+    part-pad-row-end
+    add-pad-row-2
+    mul-pad-row-2
+    sub-pad-row-2
+    part-pad-row-start-2
+    part-pad-row-end-2
+    pad-row-requires
+    add-j
+    loop-less
+    loop-again
+    same-length
+    returns)

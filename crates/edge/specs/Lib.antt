@@ -1,0 +1,2 @@
+-- The pad of edge copies.
+pub mod Edge

@@ -1,0 +1,74 @@
+-- `refusal::verdicts::zoom_verdict` meets its contract: what refusals 3 to 5 let pass is what the rest asks for.
+use mathlib.Core.Path.{_≡_, sym, ap, _∙_}
+use mathlib.Core.Bool.{false}
+use lib.Dec.{ltb}
+use borrow.Author.Tests.{lt-ltb, le-ltb}
+use borrow.Author.Needs.{needs}
+use Rattle.request.specs.Sizes.{zoomDims}
+use Rattle.request.specs.Conditions.{badLengths, badZoom, badFactors}
+use Rattle.request.proofs.Requests.{good-lengths, good-zooms}
+use Rattle.refusal.proofs.verdicts.zoom_verdict.Statement.{statement}
+use Rattle.refusal.proofs.verdicts.zoom_verdict.Tie as tie
+
+returns : tie.Need-returns
+returns c = simp (lt-ltb _ _ (c .if1 .taken))
+
+-- what each test that does not apply says
+order : (c : tie.Else1) → ltb 5 (c .before .before .before .before .before .args .r .order) ≡ false
+order c = le-ltb _ _ (c .if1 .left)
+
+bad-lengths-requires : tie.Need-bad-lengths-requires
+bad-lengths-requires c κs = search needs
+
+returns-2 : tie.Need-returns-2
+returns-2 c = simp (order (c .before .before), sym (c .before .bad-lengths .ensures) ∙ c .if2 .taken)
+
+lengths : (c : tie.Else2) → badLengths (c .before .before .before .before .before .before .before .args .r .dims) ≡ false
+lengths c = sym (c .before .bad-lengths .ensures) ∙ c .if2 .left
+
+bad-zooms-requires : tie.Need-bad-zooms-requires
+bad-zooms-requires c κs = search needs
+
+returns-3 : tie.Need-returns-3
+returns-3 c = let e = c .before .before in simp (order (e .before .before), lengths e, sym (c .before .bad-zooms .ensures) ∙ c .if3 .taken)
+
+factors : (c : tie.Else3) → badFactors badZoom (c .before .before .before .before .before .before .before .before .before .args .r .factors) ≡ false
+factors c = sym (c .before .bad-zooms .ensures) ∙ c .if3 .left
+
+zoom-dims-requires : tie.Need-zoom-dims-requires
+zoom-dims-requires c κs = good-zooms (c .before .before .before .before .before .before .before .before .before .args .r) (lengths (c .before .before)) (factors c)
+
+bad-lengths-requires-2 : tie.Need-bad-lengths-requires-2
+bad-lengths-requires-2 c κs = search needs
+
+-- the output lengths that are tested are the specified ones
+outs : (c : tie.After-bad-lengths2) → c .bad-lengths2 .result ≡ badLengths (zoomDims (c .before .before .before .before .before .before .before .before .before .before .before .args .r))
+outs c = c .bad-lengths2 .ensures ∙ ap badLengths (c .before .zoom-dims .ensures)
+
+returns-4 : tie.Need-returns-4
+returns-4 c = let e = c .before .before .before in let f = e .before .before in simp (order (f .before .before), lengths f, factors e, sym (outs (c .before)) ∙ c .if4 .taken)
+
+zoom-axes-requires : tie.Need-zoom-axes-requires
+zoom-axes-requires c κs = let o = c .before .before in (good-lengths (c .before .before .before .before .before .before .before .before .before .before .before .before .args .r .dims) (lengths (o .before .before .before)), (o .zoom-dims .ensures, good-lengths (o .zoom-dims .result) (sym (c .before .bad-lengths2 .ensures) ∙ c .if4 .left)))
+
+resample-verdict-requires : tie.Need-resample-verdict-requires
+resample-verdict-requires c κs = let h = zoom-axes-requires (c .before) tt in (h .0, h .1 .1)
+
+returns-5 : tie.Need-returns-5
+returns-5 c = c .resample-verdict .ensures ∙ simp (order (c .before .before .before .before .before .before .before .before .before), lengths (c .before .before .before .before .before .before .before), factors (c .before .before .before .before .before), sym (outs (c .before .before .before)) ∙ c .before .before .if4 .left, c .before .zoom-axes .ensures, c .before .before .before .before .zoom-dims .ensures)
+
+pub zoom-verdict-spec : {M : Type 1} → statement M
+zoom-verdict-spec =
+    tie.close
+    (tie.spec
+    returns
+    bad-lengths-requires
+    returns-2
+    bad-zooms-requires
+    returns-3
+    zoom-dims-requires
+    bad-lengths-requires-2
+    returns-4
+    zoom-axes-requires
+    resample-verdict-requires
+    returns-5)

@@ -1,0 +1,2 @@
+-- Which of the nine refusals a call meets.
+pub mod Refusals

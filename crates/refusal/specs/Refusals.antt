@@ -1,0 +1,88 @@
+-- "Checked in this order; the first that applies is given, and a refusal is given only then."
+use Prim.Native.Nat.{ℕ}
+use mathlib.Core.Bool.{Bool, _||_, cond}
+use mathlib.Core.List.{List, [], _∷_}
+use lib.ListN.{length}
+use lib.Ieee.{Float}
+use Rattle.border.specs.declared.BorderMode.{BorderMode}
+use Rattle.prefilter.specs.Volume.{countOf}
+use Rattle.request.specs.declared.Axes.{Axes}
+use Rattle.request.specs.declared.Request.{Request}
+use Rattle.request.specs.Sizes.{needed, zoomDims, shiftAxes, zoomAxes}
+use Rattle.request.specs.Conditions.{badOrder, badFilterOrder, badAxisNumber, badLengths, badShift, badZoom, badFactors, tooLarge, wrong, tooShort, wildFill, someWild, besideAny}
+use Rattle.refusal.specs.declared.Refusal.{Refusal}
+use Rattle.refusal.specs.declared.Refusal.the-variants.{Order, AxisNumber, Length, Factor, OutputLength, Count, Buffer, Value, Beside}
+use Rattle.refusal.specs.declared.Verdict.{Verdict}
+use Rattle.refusal.specs.declared.Verdict.the-variants.{Passed, Refused}
+
+-- document 01's numbers
+abbrev pub numberOf : Refusal → ℕ
+numberOf Order = 1
+numberOf AxisNumber = 2
+numberOf Length = 3
+numberOf Factor = 4
+numberOf OutputLength = 5
+numberOf Count = 6
+numberOf Buffer = 7
+numberOf Value = 8
+numberOf Beside = 9
+
+-- ---- the first of a list that applies
+pub record Check : Type 0 where
+  pub says : Refusal
+  pub applies : Bool
+
+abbrev pub when : Refusal → Bool → Check
+when says applies = record { says = says; applies = applies }
+
+abbrev pub first : List Check → Verdict
+first [] = Passed
+first (c ∷ cs) = cond (c .applies) (Refused (c .says)) (first cs)
+
+-- the number of what was found, 0 where no check applies
+abbrev pub numberBy : Verdict → ℕ
+numberBy Passed = 0
+numberBy (Refused why) = numberOf why
+
+-- ---- what each entry checks. `output`, `coverage` and `work` are the lengths of these buffers.
+abbrev pub valueCheck : BorderMode → List Float → Check
+valueCheck mode input = when Value (wildFill mode || someWild input)
+
+-- shift and zoom alike, from 6 on: with the output lengths and the axes
+abbrev pub resampleChecks : Request → List Float → ℕ → ℕ → ℕ → List ℕ → Axes → List Check
+resampleChecks r input output coverage work out a =
+    when Count (tooLarge (countOf (r .dims)) || tooLarge (countOf out) || tooLarge (needed r))
+    ∷ when Buffer (wrong (length input) (countOf (r .dims)) || wrong output (countOf out) || wrong coverage (countOf out) || tooShort work (needed r))
+    ∷ valueCheck (r .mode) input
+    ∷ when Beside (besideAny r a)
+    ∷ []
+
+abbrev pub shiftChecks : Request → List Float → ℕ → ℕ → ℕ → List Check
+shiftChecks r input output coverage work =
+    when Order (badOrder (r .order))
+    ∷ when Length (badLengths (r .dims))
+    ∷ when Factor (badFactors badShift (r .factors))
+    ∷ resampleChecks r input output coverage work (r .dims) (shiftAxes r)
+
+abbrev pub zoomChecks : Request → List Float → ℕ → ℕ → ℕ → List Check
+zoomChecks r input output coverage work =
+    when Order (badOrder (r .order))
+    ∷ when Length (badLengths (r .dims))
+    ∷ when Factor (badFactors badZoom (r .factors))
+    ∷ when OutputLength (badLengths (zoomDims r))
+    ∷ resampleChecks r input output coverage work (zoomDims r) (zoomAxes r)
+
+-- "The filters check 1, 2, 3, 6, 7, 8; a Constant fill is checked there too though unused": from 3 on alike
+abbrev pub filterChecks : Request → List Float → ℕ → List Check
+filterChecks r input output =
+    when Length (badLengths (r .dims))
+    ∷ when Count (tooLarge (countOf (r .dims)))
+    ∷ when Buffer (wrong (length input) (countOf (r .dims)) || wrong output (countOf (r .dims)))
+    ∷ valueCheck (r .mode) input
+    ∷ []
+
+abbrev pub splineFilterChecks : Request → List Float → ℕ → List Check
+splineFilterChecks r input output = when Order (badFilterOrder (r .order)) ∷ filterChecks r input output
+
+abbrev pub splineFilter1dChecks : Request → ℕ → List Float → ℕ → List Check
+splineFilter1dChecks r axis input output = when Order (badOrder (r .order)) ∷ when AxisNumber (badAxisNumber axis) ∷ filterChecks r input output

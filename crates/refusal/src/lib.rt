@@ -1,0 +1,49 @@
+// The nine refusals, their numbers, and which of them a call meets.
+ghost use mathlib.Core.Path.{_≡_};
+ghost use Rattle.refusal.specs.Refusals.{numberOf, numberBy};
+
+pub mod verdicts;
+
+// Document 01's numbers, in its order: 1 to 9.
+pub enum Refusal {
+    Order,
+    AxisNumber,
+    Length,
+    Factor,
+    OutputLength,
+    Count,
+    Buffer,
+    Value,
+    Beside,
+}
+
+pub enum Verdict {
+    Passed,
+    Refused(Refusal),
+}
+
+pub fn number_of(why: Refusal) -> u32
+    ensures { λ r. ⌜ r ≡ numberOf why ⌝ }
+{
+    match why {
+        Refusal::Order => 1,
+        Refusal::AxisNumber => 2,
+        Refusal::Length => 3,
+        Refusal::Factor => 4,
+        Refusal::OutputLength => 5,
+        Refusal::Count => 6,
+        Refusal::Buffer => 7,
+        Refusal::Value => 8,
+        Refusal::Beside => 9,
+    }
+}
+
+// 0 where nothing is refused.
+pub fn number_by(v: Verdict) -> u32
+    ensures { λ r. ⌜ r ≡ numberBy v ⌝ }
+{
+    match v {
+        Verdict::Passed => 0,
+        Verdict::Refused(why) => number_of(why),
+    }
+}

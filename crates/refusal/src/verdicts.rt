@@ -1,0 +1,223 @@
+// Which refusal a call meets first, if any. Numbers are tested before voxels, and nothing is written.
+ghost use mathlib.Core.Path.{_≡_};
+ghost use mathlib.Core.Bool.{_||_};
+ghost use lib.Dec.{ltb};
+ghost use Rattle.request.specs.Sizes.{Lengths};
+ghost use Rattle.request.specs.Conditions.{tooLarge, wrong, wildFill, someWild, besideAny};
+ghost use Rattle.refusal.specs.Refusals.{first, resampleChecks, shiftChecks, zoomChecks, filterChecks, splineFilterChecks, splineFilter1dChecks};
+use crate::Refusal;
+use crate::Verdict;
+use border::BorderMode;
+use request::Axes;
+use request::Request;
+use request::conditions::bad_lengths;
+use request::conditions::bad_shifts;
+use request::conditions::bad_zooms;
+use request::conditions::is_beside;
+use request::conditions::some_wild;
+use request::conditions::wild_fill;
+use request::sizes::count_of;
+use request::sizes::needed;
+use request::sizes::shift_axes;
+use request::sizes::zoom_axes;
+use request::sizes::zoom_dims;
+
+fn too_large(n: usize) -> bool
+    ensures { λ r. ⌜ r ≡ tooLarge n ⌝ }
+{
+    n > 134217728
+}
+
+fn some_too_large(input: usize, output: usize, work: usize) -> bool
+    ensures { λ r. ⌜ r ≡ (tooLarge input || tooLarge output || tooLarge work) ⌝ }
+{
+    if too_large(input) {
+        return true;
+    }
+    if too_large(output) {
+        return true;
+    }
+    too_large(work)
+}
+
+// The lengths of the lent buffers against their counts.
+fn some_wrong(
+    input: usize,
+    count: usize,
+    output: usize,
+    coverage: usize,
+    wanted: usize,
+    work: usize,
+    need: usize,
+) -> bool
+    ensures { λ r. ⌜ r ≡ (wrong input count || wrong output wanted || wrong coverage wanted || ltb work need) ⌝ }
+{
+    if input != count {
+        return true;
+    }
+    if output != wanted {
+        return true;
+    }
+    if coverage != wanted {
+        return true;
+    }
+    work < need
+}
+
+fn wild_any(mode: BorderMode, input: &[f64]) -> bool
+    ensures { λ r. ⌜ r ≡ (wildFill mode || someWild (now (input .entry))) ⌝ }
+{
+    if wild_fill(mode) {
+        return true;
+    }
+    some_wild(input)
+}
+
+fn beside_any(r: Request, a: Axes) -> bool
+    ensures { λ b. ⌜ b ≡ besideAny r a ⌝ }
+{
+    if r.order != 0 {
+        return false;
+    }
+    let mode = r.mode;
+    if is_beside(a.x, mode) {
+        return true;
+    }
+    if is_beside(a.y, mode) {
+        return true;
+    }
+    is_beside(a.z, mode)
+}
+
+// Refusals 6 to 9 of shift and zoom.
+fn resample_verdict(
+    r: Request,
+    input: &[f64],
+    output: usize,
+    coverage: usize,
+    work: usize,
+    out: [usize; 3],
+    a: Axes,
+) -> Verdict
+    requires { ⌜ Lengths (r .dims) ⌝ }
+    requires { ⌜ Lengths out ⌝ }
+    ensures { λ v. ⌜ v ≡ first (resampleChecks r (now (input .entry)) output coverage work out a) ⌝ }
+{
+    let dims = r.dims;
+    let mode = r.mode;
+    let count = count_of(dims);
+    let wanted = count_of(out);
+    let need = needed(r);
+    if some_too_large(count, wanted, need) {
+        return Verdict::Refused(Refusal::Count);
+    }
+    if some_wrong(input.len(), count, output, coverage, wanted, work, need) {
+        return Verdict::Refused(Refusal::Buffer);
+    }
+    if wild_any(mode, input) {
+        return Verdict::Refused(Refusal::Value);
+    }
+    if beside_any(r, a) {
+        return Verdict::Refused(Refusal::Beside);
+    }
+    Verdict::Passed
+}
+
+pub fn shift_verdict(
+    r: Request,
+    input: &[f64],
+    output: usize,
+    coverage: usize,
+    work: usize,
+) -> Verdict
+    ensures { λ v. ⌜ v ≡ first (shiftChecks r (now (input .entry)) output coverage work) ⌝ }
+{
+    let dims = r.dims;
+    let factors = r.factors;
+    if r.order > 5 {
+        return Verdict::Refused(Refusal::Order);
+    }
+    if bad_lengths(dims) {
+        return Verdict::Refused(Refusal::Length);
+    }
+    if bad_shifts(factors) {
+        return Verdict::Refused(Refusal::Factor);
+    }
+    resample_verdict(r, input, output, coverage, work, dims, shift_axes(r))
+}
+
+pub fn zoom_verdict(
+    r: Request,
+    input: &[f64],
+    output: usize,
+    coverage: usize,
+    work: usize,
+) -> Verdict
+    ensures { λ v. ⌜ v ≡ first (zoomChecks r (now (input .entry)) output coverage work) ⌝ }
+{
+    let dims = r.dims;
+    let factors = r.factors;
+    if r.order > 5 {
+        return Verdict::Refused(Refusal::Order);
+    }
+    if bad_lengths(dims) {
+        return Verdict::Refused(Refusal::Length);
+    }
+    if bad_zooms(factors) {
+        return Verdict::Refused(Refusal::Factor);
+    }
+    let out = zoom_dims(r);
+    if bad_lengths(out) {
+        return Verdict::Refused(Refusal::OutputLength);
+    }
+    resample_verdict(r, input, output, coverage, work, out, zoom_axes(r, out))
+}
+
+// Refusals 3 and 6 to 8 of the two filters.
+fn filter_verdict(r: Request, input: &[f64], output: usize) -> Verdict
+    ensures { λ v. ⌜ v ≡ first (filterChecks r (now (input .entry)) output) ⌝ }
+{
+    let dims = r.dims;
+    let mode = r.mode;
+    if bad_lengths(dims) {
+        return Verdict::Refused(Refusal::Length);
+    }
+    let count = count_of(dims);
+    if too_large(count) {
+        return Verdict::Refused(Refusal::Count);
+    }
+    if input.len() != count {
+        return Verdict::Refused(Refusal::Buffer);
+    }
+    if output != count {
+        return Verdict::Refused(Refusal::Buffer);
+    }
+    if wild_any(mode, input) {
+        return Verdict::Refused(Refusal::Value);
+    }
+    Verdict::Passed
+}
+
+pub fn spline_filter_verdict(r: Request, input: &[f64], output: usize) -> Verdict
+    ensures { λ v. ⌜ v ≡ first (splineFilterChecks r (now (input .entry)) output) ⌝ }
+{
+    if r.order < 2 {
+        return Verdict::Refused(Refusal::Order);
+    }
+    if r.order > 5 {
+        return Verdict::Refused(Refusal::Order);
+    }
+    filter_verdict(r, input, output)
+}
+
+pub fn spline_filter1d_verdict(r: Request, axis: usize, input: &[f64], output: usize) -> Verdict
+    ensures { λ v. ⌜ v ≡ first (splineFilter1dChecks r axis (now (input .entry)) output) ⌝ }
+{
+    if r.order > 5 {
+        return Verdict::Refused(Refusal::Order);
+    }
+    if axis > 2 {
+        return Verdict::Refused(Refusal::AxisNumber);
+    }
+    filter_verdict(r, input, output)
+}

@@ -1,0 +1,81 @@
+-- "Nine ways to say no": what each refusal is given for, in document 01's words.
+use Prim.Native.Nat.{ℕ, _^_}
+use mathlib.Core.Bool.{Bool, false, not, _&&_, _||_}
+use mathlib.Core.List.{List}
+use lib.Dec.{ltb, eqb}
+use lib.ListN.{length, getD}
+use lib.Ieee.{Float, nan, neg, lt, le}
+use Rattle.exact.specs.Rounded.{num}
+use Rattle.lists.specs.Some.{someBelow}
+use Rattle.border.specs.declared.BorderMode.{BorderMode}
+use Rattle.border.specs.declared.BorderMode.the-variants.{Constant, Mirror, Nearest, Reflect, Wrap}
+use Rattle.axis.specs.declared.coordinate.Axis.{Axis}
+use Rattle.axis.specs.Point.{besideAt}
+use Rattle.request.specs.declared.Axes.{Axes}
+use Rattle.request.specs.declared.Request.{Request}
+
+-- "order above 5; for `spline_filter` also order 0 or 1"
+abbrev pub badOrder : ℕ → Bool
+badOrder order = ltb 5 order
+
+abbrev pub badFilterOrder : ℕ → Bool
+badFilterOrder order = ltb order 2 || ltb 5 order
+
+-- "`spline_filter1d` is given an axis number above 2"
+abbrev pub badAxisNumber : ℕ → Bool
+badAxisNumber axis = ltb 2 axis
+
+-- "an input axis is shorter than 2 or longer than 4,096"
+abbrev pub badLength : ℕ → Bool
+badLength n = ltb n 2 || ltb 4096 n
+
+unfoldable pub badLengths : List ℕ → Bool
+unfolding someBelow
+badLengths d = someBelow (λ i. badLength (getD d i 0)) 3
+
+-- "a shift is not finite or its size is 2^20 or more"
+abbrev pub badShift : Float → Bool
+badShift s = not (lt (neg (num (2 ^ 20))) s && lt s (num (2 ^ 20)))
+
+-- "a zoom factor is not finite, not above 0, or above 4,096"
+abbrev pub badZoom : Float → Bool
+badZoom f = not (lt (num 0) f && le f (num 4096))
+
+unfoldable pub badFactors : (Float → Bool) → List Float → Bool
+unfolding someBelow
+badFactors bad f = someBelow (λ i. bad (getD f i nan)) 3
+
+-- "input count, output count or needed work count exceeds 2^27"
+abbrev pub tooLarge : ℕ → Bool
+tooLarge n = ltb (2 ^ 27) n
+
+-- "a lent buffer has the wrong length"
+abbrev pub wrong : ℕ → ℕ → Bool
+wrong length count = not (eqb length count)
+
+abbrev pub tooShort : ℕ → ℕ → Bool
+tooShort length count = ltb length count
+
+-- "a fill or an input voxel is not finite or its size exceeds 2^100"
+abbrev pub wild : Float → Bool
+wild v = not (le (neg (num (2 ^ 100))) v && le v (num (2 ^ 100)))
+
+abbrev pub wildFill : BorderMode → Bool
+wildFill (Constant fill) = wild fill
+wildFill Mirror = false
+wildFill Nearest = false
+wildFill Reflect = false
+wildFill Wrap = false
+
+unfoldable pub someWild : List Float → Bool
+unfolding someBelow
+someWild input = someBelow (λ i. wild (getD input i nan)) (length input)
+
+-- "at order 0 some axis has a coordinate that is kept but rounds to an index outside that axis"
+unfoldable pub someBeside : BorderMode → Axis → Bool
+unfolding someBelow besideAt
+someBeside mode a = someBelow (besideAt mode a) (a .out)
+
+unfoldable pub besideAny : Request → Axes → Bool
+unfolding someBeside
+besideAny r a = eqb (r .order) 0 && (someBeside (r .mode) (a .x) || someBeside (r .mode) (a .y) || someBeside (r .mode) (a .z))

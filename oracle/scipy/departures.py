@@ -1,0 +1,61 @@
+"""Document 01's departures: the coordinates at which SciPy and the Rust may differ.
+
+Run by itself it prints what SciPy gives for the smallest input of each, SciPy's column of
+docs/DIFFERENCES.md: a volume of 2 by 2 by 2, each lane of the last axis 10 20, shifted on that axis.
+"""
+
+import numpy as np
+import scipy
+from scipy import ndimage
+
+PAD = 12
+FILL = -1.0
+LANES = np.broadcast_to([10.0, 20.0], (2, 2, 2))
+# departure, mode, shift, order, prefilter
+SMALLEST = [
+    ("1", "nearest", 1, 1, False),
+    ("1, padded", "nearest", 13, 3, True),
+    ("2", "reflect", 8, 1, False),
+    ("2, near 0", "reflect", 2.0**-54, 1, False),
+    ("3", "constant", -0.5, 1, False),
+    ("3", "wrap", -0.25, 1, False),
+    ("4, below 0", "wrap", 1, 1, False),
+    ("4, beyond", "wrap", -2, 1, False),
+    ("5", "constant", -0.5, 0, False),
+]
+
+
+def is_padded(mode, order, prefilter):
+    return mode == "nearest" and prefilter and order > 1
+
+
+def departs(mode, length, at, padded):
+    """Whether document 01 lists coordinate `at`, before a pad, as a departure."""
+    if mode in ("constant", "wrap"):
+        return length - 1 < at < length
+    if mode == "nearest":
+        return at <= (-1 - PAD if padded else -1)
+    if mode == "reflect":
+        return at <= -4 * length and at % (2 * length) == 0 or -(2.0**-54) <= at < 0
+    return False
+
+
+def shifted(dims, shifts):
+    return [[i - s for i in range(length)] for length, s in zip(dims, shifts)]
+
+
+def zoomed(dims, outputs):
+    lengths = zip(dims, outputs)
+    return [[i * ((n - 1) / (m - 1)) for i in range(m)] for n, m in lengths]
+
+
+def main():
+    print("SciPy", scipy.__version__)
+    for departure, mode, shift, order, prefilter in SMALLEST:
+        asked = dict(order=order, mode=mode, cval=FILL, prefilter=prefilter)
+        volume = ndimage.shift(LANES, (0, 0, shift), **asked)
+        print(f"{departure}: {mode}, shift {shift}, order {order}:", *volume[0, 0])
+
+
+if __name__ == "__main__":
+    main()
