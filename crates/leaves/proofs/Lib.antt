@@ -1,4 +1,3 @@
 -- The laws of the replay.
-pub mod Patterns
 pub mod Reaching
 pub mod Sizes

@@ -1,15 +1,15 @@
 // The answers of one axis.
 ghost use Prim.Native.Nat.{_≤_};
 ghost use Rattle.leaves.specs.Reach.{Reachable};
-use crate::replay::Replay;
-use crate::replay::expect_float;
-use crate::replay::expect_whole;
-use crate::replay::mode_of;
-use crate::replay::refused;
-use crate::replay::skip;
-use crate::words::float_at;
-use crate::words::whole_at;
-use crate::words::word_at;
+use crate::modes::mode_of;
+use answers::replay::Replay;
+use answers::replay::expect_float;
+use answers::replay::expect_whole;
+use answers::replay::refused;
+use answers::replay::skip;
+use answers::words::float_at;
+use answers::words::whole_at;
+use answers::words::word_at;
 use axis::coordinate::Axis;
 use axis::coordinate::float_of;
 use axis::coordinate::output_length;

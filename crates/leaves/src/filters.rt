@@ -3,15 +3,15 @@ ghost use mathlib.Core.Path.{_≡_};
 ghost use mathlib.Core.Bool.{true};
 ghost use Prim.Native.Nat.{_≤_, _<_};
 ghost use Rattle.leaves.specs.Counted.{Counted};
-use crate::replay::Replay;
-use crate::replay::expect_float;
-use crate::replay::has_mode;
-use crate::replay::mode_of;
-use crate::replay::moved_to;
-use crate::replay::refused;
-use crate::words::after;
-use crate::words::float_at;
-use crate::words::whole_at;
+use crate::modes::has_mode;
+use crate::modes::mode_of;
+use answers::replay::Replay;
+use answers::replay::moved_to;
+use answers::replay::refused;
+use answers::volumes::expect_lane;
+use answers::volumes::put_lane;
+use answers::words::after;
+use answers::words::whole_at;
 use border::BorderMode;
 use prefilter::filter_axis;
 use prefilter::filter_volume;
@@ -24,66 +24,6 @@ fn is_short(n: usize) -> bool
         return false;
     }
     n <= 256
-}
-
-// The voxel k places from place `from`, and 0.0 outside.
-pub fn voxel(volume: &[f64], from: usize, k: usize) -> f64 {
-    if from < volume.len() {
-        if k < volume.len() - from {
-            return volume[from + k];
-        }
-    }
-    0.0
-}
-
-fn put_voxel(volume: &mut [f64], from: usize, k: usize, x: f64) {
-    if from < volume.len() {
-        if k < volume.len() - from {
-            volume[from + k] = x;
-        }
-    }
-}
-
-// Numbers of the pool, which stands behind the file's first word, into a lane.
-pub fn put_lane(
-    volume: &mut [f64],
-    start: usize,
-    stride: usize,
-    words: &[u64],
-    pool: usize,
-    n: usize,
-)
-    requires { ⌜ (stride ≤ 4) × (n ≤ 1024) ⌝ }
-{
-    let from = after(words, 1, pool);
-    let mut far = 0;
-    let mut i = 0;
-    while i < n {
-        put_voxel(volume, start, far, float_at(words, from, i));
-        far += stride;
-        i += 1;
-    }
-}
-
-pub fn expect_lane(
-    words: &[u64],
-    r: Replay,
-    volume: &[f64],
-    start: usize,
-    stride: usize,
-    n: usize,
-) -> Replay
-    requires { ⌜ (stride ≤ 4) × (n ≤ 1024) ⌝ }
-{
-    let mut now = r;
-    let mut far = 0;
-    let mut i = 0;
-    while i < n {
-        now = expect_float(words, now, voxel(volume, start, far));
-        far += stride;
-        i += 1;
-    }
-    now
 }
 
 // How many voxels there are; 0 where an axis is too long or too short.

@@ -2,11 +2,18 @@
 // Each line written has a kind of answer, how many numbers were compared, and how many differ.
 mod axes;
 mod filters;
-mod load;
+mod modes;
 mod pads;
-mod replay;
-mod words;
 
+use answers::load::load;
+use answers::print::say;
+use answers::print::say_compared;
+use answers::print::say_end;
+use answers::replay::Replay;
+use answers::replay::refused;
+use answers::words::after;
+use answers::words::in_pool;
+use answers::words::whole_at;
 use axes::axis_case;
 use axes::fold_case;
 use axes::length_case;
@@ -14,13 +21,7 @@ use axes::rounding_case;
 use axes::weights_case;
 use filters::lane_case;
 use filters::volume_case;
-use libc::STDOUT_FILENO;
-use load::load;
 use pads::pad_case;
-use replay::Replay;
-use replay::refused;
-use words::after;
-use words::whole_at;
 
 fn replay_case(words: &[u64], r: Replay, kind: usize) -> Replay {
     match kind {
@@ -57,18 +58,15 @@ fn replay_section(words: &[u64], from: usize, kind: usize) -> Replay {
 // Writes one line, and answers where the next section starts.
 fn replay_kind(words: &[u64], from: usize, kind: usize, name: &[u8]) -> usize {
     let r = replay_section(words, from, kind);
-    io::write_all(STDOUT_FILENO, name);
-    io::print_decimal(STDOUT_FILENO, r.compared);
-    io::write_all(STDOUT_FILENO, b" differ ");
-    io::print_decimal(STDOUT_FILENO, r.differ);
-    io::write_all(STDOUT_FILENO, b"\n");
+    say(name);
+    say_compared(r, b" differ ");
     r.at
 }
 
-// The sections stand behind the pool. None of the file is left at the end.
+// The sections stand behind the pool.
 fn replay_all(words: &[u64]) {
     let pool = whole_at(words, 0, 0);
-    let roundings = after(words, 1, pool);
+    let roundings = in_pool(words, pool);
     let lengths = replay_kind(words, roundings, 0, b"roundings ");
     let folds = replay_kind(words, lengths, 1, b"lengths ");
     let weights = replay_kind(words, folds, 2, b"folds ");
@@ -77,19 +75,11 @@ fn replay_all(words: &[u64]) {
     let volumes = replay_kind(words, lanes, 5, b"lanes ");
     let pads = replay_kind(words, volumes, 6, b"volumes ");
     let end = replay_kind(words, pads, 7, b"pads ");
-    if end < words.len() {
-        io::write_all(STDOUT_FILENO, b"the file goes on\n");
-    }
+    say_end(words, end);
 }
 
 fn main() {
     let mut words = [0u64; 98304];
-    let fd = os::open_read(b"answers");
-    if fd < 0 {
-        os::fail(b"answers");
-        return;
-    }
-    let n = load(fd, &mut words);
-    libc::close(fd);
+    let n = load(&mut words);
     replay_all(&words[..n]);
 }

@@ -2,15 +2,13 @@
 ghost use mathlib.Core.Path.{_≡_};
 ghost use Prim.Native.Nat.{_+_, _*_, _≤_};
 use crate::filters::count_of;
-use crate::filters::put_lane;
-use crate::filters::voxel;
-use crate::replay::Replay;
-use crate::replay::counted;
-use crate::replay::has_bits;
-use crate::replay::refused;
-use crate::replay::skip;
-use crate::words::whole_at;
-use crate::words::word_at;
+use answers::replay::Replay;
+use answers::replay::refused;
+use answers::replay::skip;
+use answers::volumes::expect_run;
+use answers::volumes::put_lane;
+use answers::words::whole_at;
+use answers::words::word_at;
 use edge::pad;
 
 // How many voxels the padded volume has.
@@ -32,20 +30,6 @@ fn pad_into(to: &mut [f64], from: &[f64], a: usize, b: usize, c: usize) {
             }
         }
     }
-}
-
-// A run of voxels with the same bits.
-fn expect_run(r: Replay, padded: &[f64], from: usize, count: usize, bits: u64) -> Replay {
-    if count > padded.len() {
-        return refused(r);
-    }
-    let mut now = r;
-    let mut k = 0;
-    while k < count {
-        now = counted(now, has_bits(voxel(padded, from, k), bits));
-        k += 1;
-    }
-    now
 }
 
 // Runs, each a count and the bits.

@@ -1,8 +1,9 @@
 // Demand 3, run: whole shifts move the voxels of a phantom exactly, and the opposite shifts bring them
 // back. Every voxel is compared; `stdout` holds the program to the totals.
 ghost use Prim.Native.Nat.{_≤_};
+use answers::print::say;
+use answers::print::say_whole;
 use border::BorderMode;
-use libc::STDOUT_FILENO;
 use request::Request;
 use resample::Answer;
 use resample::counts_in;
@@ -33,14 +34,6 @@ struct Totals {
     inside: u64,
     filled: u64,
     wrong: u64,
-}
-
-fn say(text: &[u8]) {
-    io::write_all(STDOUT_FILENO, text);
-}
-
-fn say_whole(n: u64) {
-    io::print_decimal(STDOUT_FILENO, n);
 }
 
 fn plus(a: u64, b: u64) -> u64 {

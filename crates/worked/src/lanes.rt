@@ -4,10 +4,10 @@ ghost use Prim.Native.Nat.{_+_, _≤_, _<_};
 ghost use mathlib.Core.Path.{_≡_};
 ghost use lib.ListN.{length};
 use crate::print::bits;
-use crate::print::say;
 use crate::print::say_codes;
 use crate::print::say_numbers;
-use crate::print::say_whole;
+use answers::print::say;
+use answers::print::say_whole;
 
 fn same_numbers(a: &[f64], b: &[f64]) -> bool {
     if a.len() != b.len() {

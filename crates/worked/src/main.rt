@@ -2,6 +2,8 @@
 // public entries and printed. `stdout` holds the program to the document's numbers.
 ghost use mathlib.Core.Path.{_≡_};
 ghost use lib.ListN.{length};
+use answers::print::say;
+use answers::print::say_whole;
 use border::BorderMode;
 use lines::BLANK;
 use lines::shift_into;
@@ -9,8 +11,6 @@ use lines::shift_line;
 use lines::spline_filter_line;
 use lines::spline_filter1d_line;
 use lines::zoom_line;
-use print::say;
-use print::say_whole;
 use request::Request;
 
 mod lanes;

@@ -1,14 +1,9 @@
 // Printing. Each number of a list has a space before it.
+use answers::print::say;
+use answers::print::say_whole;
+use answers::print::whole_part;
 use coverage::counts::Counts;
 use libc::STDOUT_FILENO;
-
-pub fn say(text: &[u8]) {
-    io::write_all(STDOUT_FILENO, text);
-}
-
-pub fn say_whole(n: u64) {
-    io::print_decimal(STDOUT_FILENO, n);
-}
 
 fn say_count(n: usize) {
     say(b" ");
@@ -27,16 +22,6 @@ pub fn bits(x: f64) -> u64 {
         return f64::to_bits(x);
     }
     0x7ff8_0000_0000_0000
-}
-
-// The whole part of x, and 0 where a u64 cannot hold it.
-fn whole_part(x: f64) -> u64 {
-    if x > -1.0 {
-        if x < 18446744073709551616.0 {
-            return std::num::truncating_f64_to_u64(x);
-        }
-    }
-    0
 }
 
 // The size of x after its sign if that is a whole number; else the bits of x.

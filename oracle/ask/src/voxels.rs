@@ -1,5 +1,7 @@
 //! The numbers of a volume or a lane: written out, repeated, or from a seed.
 
+use shared::Seeded;
+
 use crate::fields::{floats, whole, Fields};
 
 /// Reads the field `input`, which must come to `count` numbers.
@@ -17,16 +19,6 @@ pub fn read(fields: &mut Fields, count: usize) -> Result<Vec<f64>, String> {
 
 /// Multiples of 2^-42 from -1024 up to but not including 1024, each exact.
 fn from_seed(seed: u64) -> impl Iterator<Item = f64> {
-    split_mix(seed).map(|bits| (bits >> 11) as f64 / (1u64 << 42) as f64 - 1024.0)
-}
-
-/// The generator SplitMix64.
-fn split_mix(seed: u64) -> impl Iterator<Item = u64> {
-    let mut state = seed;
-    std::iter::repeat_with(move || {
-        state = state.wrapping_add(0x9e37_79b9_7f4a_7c15);
-        let mixed = (state ^ (state >> 30)).wrapping_mul(0xbf58_476d_1ce4_e5b9);
-        let mixed = (mixed ^ (mixed >> 27)).wrapping_mul(0x94d0_49bb_1331_11eb);
-        mixed ^ (mixed >> 31)
-    })
+    let mut seeded = Seeded::new(seed);
+    std::iter::repeat_with(move || (seeded.bits() >> 11) as f64 / (1u64 << 42) as f64 - 1024.0)
 }

@@ -1,10 +1,10 @@
 //! Requests from a seed. Each is made from the seed and its own number alone.
 
-use crate::document::{FARTHEST, LARGEST};
-use crate::plan::{Off, Plan, VOXELS};
-use crate::request::{Asked, Entry};
-use crate::seeded::Seeded;
-use crate::spoils::SPOILS;
+use requests::document::{FARTHEST, LARGEST};
+use requests::plan::{Off, Plan, VOXELS};
+use requests::request::{Asked, Entry};
+use requests::spoils::SPOILS;
+use shared::Seeded;
 
 /// Lengths at which a start of the prefilter changes its way.
 const CUT_OFFS: [usize; 6] = [7, 10, 19, 25, 33, 40];

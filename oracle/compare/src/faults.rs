@@ -1,11 +1,13 @@
 //! Faults planted in an outcome of the library, each of which must be noticed.
 
-use crate::lent::GUARD;
-use crate::outcome::Outcome;
-use crate::plan::Plan;
-use crate::request::Entry;
-use crate::spoils::sound;
-use crate::{expected, ours};
+use requests::expected;
+use requests::lent::GUARD;
+use requests::outcome::Outcome;
+use requests::plan::Plan;
+use requests::request::Entry;
+use requests::spoils::sound;
+
+use crate::ours;
 
 type Fault = (&'static str, fn(&mut Outcome));
 

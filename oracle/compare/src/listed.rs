@@ -1,9 +1,9 @@
 //! Requests that are always put: every entry, mode and order; the prefilter's cut-offs; the edges of
 //! the folds; zooms that round from a tie; the longest axes; each limit alone and in pairs.
 
-use crate::plan::{Plan, Voxels, VOXELS};
-use crate::request::{Asked, Entry, ENTRIES};
-use crate::spoils::{sound, SPOILS};
+use requests::plan::{Plan, Voxels, VOXELS};
+use requests::request::{Asked, Entry, ENTRIES};
+use requests::spoils::{sound, SPOILS};
 
 const MODES: std::ops::Range<u32> = 0..5;
 

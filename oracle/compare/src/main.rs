@@ -1,31 +1,28 @@
 //! `compare`: puts the same requests to the library and to the Rust, and compares every place of every
-//! buffer bit for bit. oracle/run-compare builds and runs it.
+//! buffer bit for bit (oracle/run-compare); and holds whole coordinates of both to the SciPy manual
+//! (oracle/run-whole).
 
-mod document;
 mod drawn;
-mod expected;
 mod faults;
-mod lent;
 mod listed;
 mod ours;
-mod outcome;
 mod piped;
-mod plan;
-mod request;
-mod seeded;
-mod spoils;
 mod tally;
-mod theirs;
+mod whole;
 
 use std::process::ExitCode;
+use std::str::FromStr;
 
-use outcome::Outcome;
-use plan::Plan;
-use request::Request;
+use requests::outcome::Outcome;
+use requests::plan::Plan;
+use requests::request::Request;
+use requests::{expected, theirs};
 use tally::Tally;
+use whole::Reach;
 
 const USAGE: &str =
-    "usage: compare linked CASES SEED | compare piped CASES SEED PROGRAM [WORD...] | compare faults";
+    "usage: compare linked CASES SEED | compare piped CASES SEED PROGRAM [WORD...] \
+     | compare whole LIBRARY FOLD | compare faults";
 
 /// The piped library is given one request in so many, and none with more places.
 const ONE_IN: usize = 20;
@@ -58,8 +55,12 @@ fn run(words: &[String]) -> Result<String, String> {
                 door.call(request).map_err(|error| error.to_string())
             })
         }
+        ["whole", library, fold] => whole::sweep(Reach {
+            library: number(library)?,
+            fold: number(fold)?,
+        }),
         ["faults"] => {
-            let count = faults::all_noticed()?;
+            let count = faults::all_noticed()? + whole::planted::all_noticed()?;
             Ok(format!("planted faults: {count} of {count} noticed"))
         }
         _ => Err(USAGE.into()),
@@ -68,13 +69,14 @@ fn run(words: &[String]) -> Result<String, String> {
 
 /// The list, then as many cases as are asked for, each with its number.
 fn plans(cases: &str, seed: &str) -> Result<impl Iterator<Item = (usize, Plan)>, String> {
-    let number = |word: &str| {
-        let number = word.parse::<u64>();
-        number.map_err(|_| format!("{word} is no whole number; {USAGE}"))
-    };
     let (cases, seed) = (number(cases)?, number(seed)?);
     let drawn = (0..cases).map(move |number| drawn::plan(seed, number));
     Ok(listed::plans().into_iter().chain(drawn).enumerate())
+}
+
+fn number<T: FromStr>(word: &str) -> Result<T, String> {
+    let number = word.parse();
+    number.map_err(|_| format!("{word} is no whole number; {USAGE}"))
 }
 
 /// A summary; or the first difference, with the request at which it appears.

@@ -1,44 +1,9 @@
 //! The library, linked, through its door for C.
 
-use crate::lent::Lent;
-use crate::outcome::Outcome;
-use crate::request::{Asked, Entry, Request};
-
-/// Functions of the door that take what `shift` takes.
-macro_rules! resamplers {
-    ($($name:ident),*) => {
-        extern "C" {
-            $(fn $name(
-                d0: usize, d1: usize, d2: usize,
-                f0: f64, f1: f64, f2: f64,
-                order: usize, prefilter: u32, mode: u32, fill: f64,
-                input: *const f64, input_len: usize,
-                output: *mut f64, output_len: usize,
-                coverage: *mut u8, coverage_len: usize,
-                work: *mut f64, work_len: usize,
-                counts: *mut u64, counts_len: usize,
-            ) -> u32;)*
-        }
-    };
-}
-
-resamplers!(vurelika_shift, vurelika_zoom);
-
-#[rustfmt::skip]
-extern "C" {
-    fn vurelika_spline_filter(
-        d0: usize, d1: usize, d2: usize, order: usize, mode: u32, fill: f64,
-        input: *const f64, input_len: usize, output: *mut f64, output_len: usize,
-    ) -> u32;
-    fn vurelika_spline_filter1d(
-        d0: usize, d1: usize, d2: usize, order: usize, axis: usize, mode: u32, fill: f64,
-        input: *const f64, input_len: usize, output: *mut f64, output_len: usize,
-    ) -> u32;
-    fn vurelika_zoom_length(length: usize, factor: f64) -> usize;
-    fn vurelika_work_count(
-        d0: usize, d1: usize, d2: usize, order: usize, prefilter: u32, mode: u32,
-    ) -> usize;
-}
+use requests::lent::Lent;
+use requests::outcome::Outcome;
+use requests::request::{Asked, Entry, Request};
+use vurelika_sys::*;
 
 pub fn call(request: &Request) -> Outcome {
     let asked = &request.asked;
@@ -64,7 +29,7 @@ pub fn call(request: &Request) -> Outcome {
 }
 
 #[rustfmt::skip]
-fn resample(asked: &Asked, lent: &mut Lent) -> u32 {
+pub fn resample(asked: &Asked, lent: &mut Lent) -> u32 {
     let function = if asked.entry == Entry::Shift { vurelika_shift } else { vurelika_zoom };
     let &Asked { dims: [d0, d1, d2], factors: [f0, f1, f2], order, prefilter, mode, fill, .. } = asked;
     let (input, input_len) = lent.input.parts();

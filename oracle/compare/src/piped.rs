@@ -4,9 +4,9 @@
 use std::io::{self, BufReader, BufWriter, Read, Write};
 use std::process::{Child, ChildStdin, ChildStdout, Command, Stdio};
 
-use crate::lent::{Lent, GUARD};
-use crate::outcome::Outcome;
-use crate::request::Request;
+use requests::lent::{Lent, GUARD};
+use requests::outcome::Outcome;
+use requests::request::Request;
 
 pub struct Door {
     to: BufWriter<ChildStdin>,

@@ -2,9 +2,9 @@
 
 use std::fmt;
 
-use crate::document::UNKNOWN_MODE;
-use crate::outcome::Outcome;
-use crate::request::{Request, ENTRIES};
+use requests::document::UNKNOWN_MODE;
+use requests::outcome::Outcome;
+use requests::request::{Request, ENTRIES};
 
 const ANSWERS: [u32; 11] = [0, 1, 2, 3, 4, 5, 6, 7, 8, 9, UNKNOWN_MODE];
 

@@ -4,9 +4,9 @@ use std::panic::{self, AssertUnwindSafe};
 
 use ndarray_ndimage::probe::{self, Axes, Point};
 use ndarray_ndimage::BorderMode;
+use shared::{Seeded, Words};
 
-use crate::numbers::{beside, Seeded, MODES, TINY};
-use crate::words::Words;
+use crate::numbers::{beside, MODES, TINY};
 
 /// Length, factor, output length.
 pub fn lengths() -> Vec<Words> {

@@ -2,10 +2,10 @@
 
 use ndarray::{Array3, Axis};
 use ndarray_ndimage::{pad, probe, spline_filter, spline_filter1d, BorderMode, PadMode};
+use shared::Words;
 
 use crate::axes::by_mode;
 use crate::numbers::STRETCH;
-use crate::words::Words;
 
 fn bits(values: &[f64]) -> Vec<u64> {
     values.iter().map(|value| value.to_bits()).collect()

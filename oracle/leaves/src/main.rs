@@ -5,11 +5,10 @@
 mod axes;
 mod lanes;
 mod numbers;
-mod words;
 
 use std::process::ExitCode;
 
-use words::Words;
+use shared::Words;
 
 fn main() -> ExitCode {
     let arguments: Vec<String> = std::env::args().skip(1).collect();

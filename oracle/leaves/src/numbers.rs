@@ -2,8 +2,7 @@
 
 use ndarray_ndimage::probe;
 use ndarray_ndimage::BorderMode;
-
-use crate::words::Words;
+use shared::{Seeded, Words};
 
 /// The modes, in the order of their numbers in the file. The fill reaches no answer here.
 pub const MODES: [BorderMode<f64>; 5] = [
@@ -13,31 +12,6 @@ pub const MODES: [BorderMode<f64>; 5] = [
     BorderMode::Reflect,
     BorderMode::Wrap,
 ];
-
-/// The generator SplitMix64.
-pub struct Seeded(u64);
-
-impl Seeded {
-    pub fn new(seed: u64) -> Seeded {
-        Seeded(seed)
-    }
-
-    pub fn bits(&mut self) -> u64 {
-        self.0 = self.0.wrapping_add(0x9e37_79b9_7f4a_7c15);
-        let mixed = (self.0 ^ (self.0 >> 30)).wrapping_mul(0xbf58_476d_1ce4_e5b9);
-        let mixed = (mixed ^ (mixed >> 27)).wrapping_mul(0x94d0_49bb_1331_11eb);
-        mixed ^ (mixed >> 31)
-    }
-
-    /// From 0 up to 1.
-    pub fn fraction(&mut self) -> f64 {
-        (self.bits() >> 11) as f64 / (1u64 << 53) as f64
-    }
-
-    pub fn between(&mut self, low: f64, high: f64) -> f64 {
-        low + (high - low) * self.fraction()
-    }
-}
 
 /// How many numbers each stretch of the pool has.
 pub const STRETCH: usize = 256;

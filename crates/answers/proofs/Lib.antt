@@ -1,0 +1,2 @@
+-- The law of the words.
+pub mod Patterns

@@ -1,0 +1,112 @@
+// Replays the calls of the file `answers` and compares everything that the Rust answered, bit for bit.
+// Each line has an entry, how many calls are for it, how many of these ended in success and in each
+// refusal, how many numbers were compared, and how many differ.
+mod compare;
+
+use answers::load::load;
+use answers::print::say;
+use answers::print::say_compared;
+use answers::print::say_end;
+use answers::print::say_whole;
+use answers::replay::Replay;
+use answers::replay::moved_to;
+use answers::replay::refused;
+use compare::expect_coverage;
+use compare::expect_output;
+use compare::expect_told;
+use compare::expect_work;
+use recorded::calls::BLANK;
+use recorded::calls::NO_CODE;
+use recorded::calls::after_call;
+use recorded::calls::call;
+use recorded::calls::is_for;
+use recorded::calls::number_of_calls;
+use recorded::calls::say_calls;
+use recorded::calls::start;
+use recorded::lengths::is_call;
+use resample::Answer;
+use resample::number_in;
+
+// One answer more with this number, 0 to 9.
+fn tally(ends: &mut [u64; 10], answer: Answer) {
+    let n = number_in(answer) as usize;
+    if n < 10 {
+        ends[n] = std::num::wrapping_add_u64(ends[n], 1);
+    }
+}
+
+fn replay_call(words: &[u64], r: Replay, ends: &mut [u64; 10]) -> Replay {
+    let at = r.at;
+    if is_call(words, at) {
+        let mut output = [BLANK; 4096];
+        let mut coverage = [NO_CODE; 4096];
+        let mut work = [BLANK; 20480];
+        let answer = call(words, at, &mut output, &mut coverage, &mut work);
+        tally(ends, answer);
+        let told = expect_told(words, r, at, answer);
+        let valued = expect_output(words, told, at, &output);
+        let coded = expect_coverage(words, valued, at, &coverage);
+        return expect_work(words, coded, at, &work);
+    }
+    refused(r)
+}
+
+// The next call, replayed if it is for the entry.
+fn replay_next(words: &[u64], r: Replay, entry: usize, ends: &mut [u64; 10]) -> Replay {
+    let at = r.at;
+    let mut now = r;
+    if is_for(words, at, entry) {
+        now = replay_call(words, r, ends);
+    }
+    moved_to(now, after_call(words, at))
+}
+
+fn replay_entry(words: &[u64], entry: usize, ends: &mut [u64; 10]) -> Replay {
+    let calls = number_of_calls(words);
+    let mut r = start(words);
+    let mut i = 0;
+    while i < calls {
+        r = replay_next(words, r, entry, ends);
+        i += 1;
+    }
+    r
+}
+
+fn say_count(n: u64) {
+    say(b" ");
+    say_whole(n);
+}
+
+fn say_ends(ends: &[u64; 10]) {
+    let mut n = 0;
+    while n < 10 {
+        say_count(ends[n]);
+        n += 1;
+    }
+}
+
+// Writes one line, and answers where the calls end.
+fn replay_line(words: &[u64], entry: usize, name: &[u8]) -> usize {
+    let mut ends = [0u64; 10];
+    let r = replay_entry(words, entry, &mut ends);
+    say_calls(words, entry, name);
+    say(b"answers 0 to 9:");
+    say_ends(&ends);
+    say(b", compared ");
+    say_compared(r, b" differ ");
+    r.at
+}
+
+fn replay_all(words: &[u64]) {
+    replay_line(words, 0, b"shift");
+    replay_line(words, 1, b"zoom");
+    replay_line(words, 2, b"spline_filter");
+    let end = replay_line(words, 3, b"spline_filter1d");
+    say_end(words, end);
+}
+
+fn main() {
+    let mut words = [0u64; 163840];
+    let n = load(&mut words);
+    replay_all(&words[..n]);
+}

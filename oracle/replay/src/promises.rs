@@ -1,0 +1,93 @@
+//! What the file promises to have: every entry, mode, order and flag carried out, shifts that drop some
+//! voxels and keep others, and every refusal of every entry.
+
+use requests::request::{Entry, ENTRIES};
+
+use crate::record::Answered;
+
+/// Says which promised call is missing.
+pub fn check(calls: &[Answered]) -> Result<(), String> {
+    for entry in ENTRIES {
+        for number in refusals(entry) {
+            find(calls, entry, &format!("refusal {number}"), |call| {
+                call.answer == *number
+            })?;
+        }
+        for mode in 0..5 {
+            for order in orders(entry) {
+                for choice in choices(entry) {
+                    let what = format!("mode {mode}, order {order}, flag or axis {choice}");
+                    let is_it = |call: &Answered| {
+                        let asked = &call.asked;
+                        call.answer == 0
+                            && (asked.mode, asked.order) == (mode, order)
+                            && chosen(call) == choice
+                    };
+                    find(calls, entry, &what, is_it)?;
+                    if entry == Entry::Shift && DROPPING.contains(&mode) {
+                        let what = format!("{what}, some voxels dropped");
+                        find(calls, entry, &what, |call| is_it(call) && drops_some(call))?;
+                    }
+                }
+            }
+        }
+    }
+    Ok(())
+}
+
+/// Constant, Nearest, Reflect.
+const DROPPING: [u32; 3] = [0, 2, 3];
+
+fn refusals(entry: Entry) -> &'static [u32] {
+    match entry {
+        Entry::Shift => &[1, 3, 4, 6, 7, 8, 9],
+        Entry::Zoom => &[1, 3, 4, 5, 6, 7, 8],
+        Entry::SplineFilter => &[1, 3, 6, 7, 8],
+        Entry::SplineFilter1d => &[1, 2, 3, 6, 7, 8],
+    }
+}
+
+fn orders(entry: Entry) -> std::ops::RangeInclusive<usize> {
+    match entry {
+        Entry::SplineFilter => 2..=5,
+        _ => 0..=5,
+    }
+}
+
+/// The flags, the axes, or nothing to choose.
+fn choices(entry: Entry) -> std::ops::Range<usize> {
+    match entry {
+        Entry::Shift | Entry::Zoom => 0..2,
+        Entry::SplineFilter => 0..1,
+        Entry::SplineFilter1d => 0..3,
+    }
+}
+
+fn chosen(call: &Answered) -> usize {
+    match call.asked.entry {
+        Entry::Shift | Entry::Zoom => call.asked.prefilter as usize,
+        Entry::SplineFilter => 0,
+        Entry::SplineFilter1d => call.asked.axis,
+    }
+}
+
+fn drops_some(call: &Answered) -> bool {
+    let [computed, filled, defaulted] = call.counts;
+    computed > 0 && filled + defaulted > 0
+}
+
+fn find(
+    calls: &[Answered],
+    entry: Entry,
+    what: &str,
+    is_it: impl Fn(&Answered) -> bool,
+) -> Result<(), String> {
+    let found = calls
+        .iter()
+        .any(|call| call.asked.entry == entry && is_it(call));
+    if found {
+        Ok(())
+    } else {
+        Err(format!("no call of {} has {what}", entry.name()))
+    }
+}
