@@ -62,6 +62,10 @@ type Stretch = RangeInclusive<i64>;
 /// A program, asked about one axis.
 trait Witness {
     const PROGRAM: Program;
+    /// The longest axis that it can be asked about.
+    const LONGEST: i64;
+    /// How far beyond the coordinates of voxels it is asked.
+    const BEYOND: i64;
 
     fn axis(&self) -> Axis;
 
@@ -84,7 +88,8 @@ const MODES: [BorderMode<f64>; 5] = [
     BorderMode::Wrap,
 ];
 
-const LONGEST: usize = 4096;
+/// The axes that any program is asked about.
+const LONGEST: usize = Fold::LONGEST as usize;
 
 /// Coordinates as near to 0 as this are always asked for, and farther ones of a long axis.
 const NEAR: i64 = 1 << 10;
@@ -156,24 +161,27 @@ fn at_length(reach: Reach, length: usize) -> Result<Tallies, String> {
             length: length as i64,
         };
         *tallies = [
-            seen_by(&mut Library::new(axis), length <= reach.library)?,
-            seen_by(&mut Fold(axis), length <= reach.fold)?,
+            seen_by(Library::new, axis, length <= reach.library)?,
+            seen_by(Fold, axis, length <= reach.fold)?,
         ];
     }
     Ok(tallies)
 }
 
-fn seen_by(witness: &mut impl Witness, all: bool) -> Result<Tally, String> {
+fn seen_by<W: Witness>(of: fn(Axis) -> W, axis: Axis, all: bool) -> Result<Tally, String> {
     let mut tally = Tally::default();
-    for stretch in stretches(witness.axis().length, all) {
-        tally.add(&check(witness, stretch, |_, landing| landing)?);
+    if axis.length <= W::LONGEST {
+        let mut witness = of(axis);
+        for stretch in stretches(axis.length, W::BEYOND, all) {
+            tally.add(&check(&mut witness, stretch, |_, landing| landing)?);
+        }
     }
     Ok(tally)
 }
 
 /// The coordinates that a whole shift of the axis reaches; or those near, and both ends.
-fn stretches(length: i64, all: bool) -> Vec<Stretch> {
-    let farthest = FARTHEST as i64 - 1;
+fn stretches(length: i64, beyond: i64, all: bool) -> Vec<Stretch> {
+    let farthest = FARTHEST as i64 - 1 + beyond;
     let (low, high) = (-farthest, farthest + length - 1);
     if all {
         return vec![low..=high];

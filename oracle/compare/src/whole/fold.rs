@@ -4,10 +4,16 @@ use ndarray_ndimage::probe::map_coordinates;
 
 use super::{Axis, Landing, Program, Stretch, Witness};
 
+const PAD: i64 = 12;
+
 pub struct Fold(pub Axis);
 
 impl Witness for Fold {
     const PROGRAM: Program = Program::Fold;
+    /// An axis of 4,096 with Nearest's pad.
+    const LONGEST: i64 = 4096 + 2 * PAD;
+    /// The pad, and at order 5 three neighbours.
+    const BEYOND: i64 = PAD + 3;
 
     fn axis(&self) -> Axis {
         self.0

@@ -83,6 +83,8 @@ impl Library {
 
 impl Witness for Library {
     const PROGRAM: Program = Program::Library;
+    const LONGEST: i64 = 4096;
+    const BEYOND: i64 = 0;
 
     fn axis(&self) -> Axis {
         self.axis
