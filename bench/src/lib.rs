@@ -1,4 +1,4 @@
-//! One call, put to each side: to the library through its door for C, to the Rust's own sources
+//! One call, put to each side: to the library through its Rust crate, to the Rust's own sources
 //! over the oracle's containers, and to SciPy if it is there.
 
 mod call;

@@ -1,35 +1,33 @@
-//! The library, through its door for C.
+//! The library, through its Rust crate.
 
 use ndarray_ndimage::BorderMode;
-use vurelika_sys::{vurelika_shift, vurelika_zoom};
+use vurelika::{shift_into, zoom_into, Request};
 
 use crate::call::{Call, Entry};
 
-fn mode_and_fill(mode: BorderMode<f64>) -> (u32, f64) {
-    match mode {
-        BorderMode::Constant(fill) => (0, fill),
-        BorderMode::Mirror => (1, 0.0),
-        BorderMode::Nearest => (2, 0.0),
-        BorderMode::Reflect => (3, 0.0),
-        BorderMode::Wrap => (4, 0.0),
-    }
-}
-
-/// What a call is lent to write, every page of it touched before.
+/// A call, and what it is lent to write, every page of it touched before.
 pub struct Lent {
+    entry: Entry,
+    request: Request,
     pub output: Vec<f64>,
     coverage: Vec<u8>,
     work: Vec<f64>,
-    counts: [u64; 3],
 }
 
 impl Lent {
-    pub fn new(call: &Call, output_count: usize) -> Lent {
+    pub fn new(call: &Call) -> Lent {
+        let request = request(call);
+        let sizes = match call.entry {
+            Entry::Shift => request.shift_sizes(),
+            Entry::Zoom => request.zoom_sizes(),
+        };
+        let sizes = sizes.expect("the library has sizes for the call");
         Lent {
-            output: vec![f64::NAN; output_count],
-            coverage: vec![9; output_count],
-            work: vec![f64::NAN; call.work_count()],
-            counts: [0; 3],
+            entry: call.entry,
+            request,
+            output: vec![f64::NAN; sizes.output],
+            coverage: vec![9; sizes.output],
+            work: vec![f64::NAN; sizes.work],
         }
     }
 
@@ -38,39 +36,29 @@ impl Lent {
     }
 
     /// Makes the call, which must succeed.
-    pub fn call(&mut self, call: &Call, input: &[f64]) {
-        let function = match call.entry {
-            Entry::Shift => vurelika_shift,
-            Entry::Zoom => vurelika_zoom,
+    pub fn call(&mut self, input: &[f64]) {
+        let function = match self.entry {
+            Entry::Shift => shift_into,
+            Entry::Zoom => zoom_into,
         };
-        let [f0, f1, f2] = call.factors();
-        let (mode, fill) = mode_and_fill(call.mode);
-        // SAFETY: each pointer goes with the length of the buffer that it points to, and the
-        // buffers that are written are borrowed by nobody else.
-        let refusal = unsafe {
-            function(
-                call.side,
-                call.side,
-                call.side,
-                f0,
-                f1,
-                f2,
-                call.order,
-                call.prefilter.into(),
-                mode,
-                fill,
-                input.as_ptr(),
-                input.len(),
-                self.output.as_mut_ptr(),
-                self.output.len(),
-                self.coverage.as_mut_ptr(),
-                self.coverage.len(),
-                self.work.as_mut_ptr(),
-                self.work.len(),
-                self.counts.as_mut_ptr(),
-                self.counts.len(),
-            )
-        };
-        assert_eq!(refusal, 0, "the library refuses a call");
+        let (output, coverage) = (&mut self.output, &mut self.coverage);
+        let counts = function(&self.request, input, output, coverage, &mut self.work);
+        counts.expect("the library carries out the call");
+    }
+}
+
+fn request(call: &Call) -> Request {
+    Request {
+        dims: [call.side; 3],
+        factors: call.factors(),
+        order: call.order,
+        prefilter: call.prefilter,
+        mode: match call.mode {
+            BorderMode::Constant(fill) => vurelika::BorderMode::Constant(fill),
+            BorderMode::Mirror => vurelika::BorderMode::Mirror,
+            BorderMode::Nearest => vurelika::BorderMode::Nearest,
+            BorderMode::Reflect => vurelika::BorderMode::Reflect,
+            BorderMode::Wrap => vurelika::BorderMode::Wrap,
+        },
     }
 }

@@ -49,8 +49,8 @@ fn main() {
         let data = call.volume();
         let before = IN_USE.load(Relaxed);
         MOST.store(before, Relaxed);
-        let voxels = call.rust(&data).len();
+        call.rust(&data);
         let rust = MOST.load(Relaxed) - before;
-        println!("{name:20}{:15}{rust:18}", Lent::new(&call, voxels).bytes());
+        println!("{name:20}{:15}{rust:18}", Lent::new(&call).bytes());
     }
 }

@@ -112,8 +112,7 @@ fn on(prefilter: bool) -> &'static str {
 
 fn measure(scipy: &mut Option<SciPy>, call: &Call) -> Times {
     let data = call.volume();
-    let voxels = call.rust(&data).len();
-    let mut lent = Lent::new(call, voxels);
+    let mut lent = Lent::new(call);
     if let Some(scipy) = scipy {
         scipy.prepare(call);
     }
@@ -122,11 +121,11 @@ fn measure(scipy: &mut Option<SciPy>, call: &Call) -> Times {
         rust: Duration::MAX,
         scipy: scipy.as_ref().map(|_| Duration::MAX),
         turns: 0,
-        voxels,
+        voxels: lent.output.len(),
     };
     let began = Instant::now();
     while best.turns < FEWEST || best.turns < TURNS && began.elapsed() < PATIENCE {
-        let (ours, ()) = timed(|| lent.call(call, voxels_of(&data)));
+        let (ours, ()) = timed(|| lent.call(voxels_of(&data)));
         let (rust, volume) = timed(|| call.rust(&data));
         assert!(
             bits(voxels_of(&volume)).eq(bits(&lent.output)),

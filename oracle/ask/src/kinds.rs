@@ -3,11 +3,12 @@
 use ndarray::{Array3, ArrayRef3, Axis};
 use ndarray_ndimage::probe::{self, Axes, Point};
 use ndarray_ndimage::{pad, shift, spline_filter, spline_filter1d, zoom, BorderMode, PadMode};
+use shared::rust;
 
 use crate::answer::{Answer, Style};
 use crate::constants;
 use crate::fields::Fields;
-use crate::{rust, voxels};
+use crate::voxels;
 
 /// A request that has been read: asks the Rust and writes what it says.
 type Question = Box<dyn FnOnce(&mut Answer)>;

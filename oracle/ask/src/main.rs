@@ -5,7 +5,6 @@ mod constants;
 mod fields;
 mod kinds;
 mod powers;
-mod rust;
 mod voxels;
 
 use std::fs::File;
@@ -13,6 +12,7 @@ use std::io::{self, BufRead, BufReader, BufWriter, Write};
 use std::process::ExitCode;
 
 use answer::Style;
+use shared::rust;
 
 const USAGE: &str = "usage: oracle ask [FILE] | oracle constants | oracle powi";
 

@@ -13,10 +13,11 @@ mod whole;
 use std::process::ExitCode;
 use std::str::FromStr;
 
+use requests::expected;
 use requests::outcome::Outcome;
 use requests::plan::Plan;
 use requests::request::Request;
-use requests::{expected, theirs};
+use shared::rust;
 use tally::Tally;
 use whole::Reach;
 
@@ -29,7 +30,7 @@ const ONE_IN: usize = 20;
 const SMALL: usize = 30_000;
 
 fn main() -> ExitCode {
-    theirs::keep_caught_panics_quiet();
+    rust::keep_caught_panics_quiet();
     let words: Vec<String> = std::env::args().skip(1).collect();
     match run(&words) {
         Ok(summary) => {

@@ -10,11 +10,10 @@ mod sample;
 use std::process::ExitCode;
 
 use record::Recording;
-use requests::theirs;
-use shared::Words;
+use shared::{rust, Words};
 
 fn main() -> ExitCode {
-    theirs::keep_caught_panics_quiet();
+    rust::keep_caught_panics_quiet();
     let arguments: Vec<String> = std::env::args().skip(1).collect();
     let [path] = &arguments[..] else {
         eprintln!("usage: replay FILE");

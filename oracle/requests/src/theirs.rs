@@ -1,11 +1,9 @@
 //! The Rust: its values, the codes off its own tables of dropped indices, and its coefficients.
 
-use std::cell::Cell;
-use std::panic::{self, AssertUnwindSafe};
-
 use ndarray::{Array3, Axis};
 use ndarray_ndimage::probe::{codes, coefficients, Axes};
 use ndarray_ndimage::{shift, spline_filter, spline_filter1d, zoom, BorderMode};
+use shared::rust;
 
 use crate::request::{Asked, Entry, Request};
 
@@ -16,26 +14,9 @@ pub struct Theirs {
     pub coefficients: Vec<f64>,
 }
 
-thread_local! {
-    static IN_THE_RUST: Cell<bool> = const { Cell::new(false) };
-}
-
-/// Panics of the Rust are answers and print nothing; any other is a fault of this program.
-pub fn keep_caught_panics_quiet() {
-    let report = panic::take_hook();
-    panic::set_hook(Box::new(move |info| {
-        if !IN_THE_RUST.get() {
-            report(info);
-        }
-    }));
-}
-
 /// What the Rust gives for a request that passes refusals 1 to 8; `None` where it panics.
 pub fn call(request: &Request, mode: BorderMode<f64>) -> Option<Theirs> {
-    IN_THE_RUST.set(true);
-    let outcome = panic::catch_unwind(AssertUnwindSafe(|| answer(request, mode)));
-    IN_THE_RUST.set(false);
-    outcome.ok()
+    rust::call(|| answer(request, mode))
 }
 
 fn answer(request: &Request, mode: BorderMode<f64>) -> Theirs {

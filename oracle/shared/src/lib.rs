@@ -1,5 +1,6 @@
-//! What the oracle's programs share: numbers from a seed, and files of words.
+//! What the oracle's programs share: calls that may panic, numbers from a seed, and files of words.
 
+pub mod rust;
 mod seeded;
 mod words;
 
