@@ -17,3 +17,5 @@ pub mod Ranges
 pub mod Rounds
 pub mod Above
 pub mod Nans
+pub mod Halves
+pub mod Upto

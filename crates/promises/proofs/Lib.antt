@@ -7,10 +7,8 @@ pub mod Succeeding
 pub mod Places
 pub mod Marked
 pub mod Counted
-pub mod Upto
 pub mod Spread
 pub mod Zooming
-pub mod Halves
 pub mod OneVoxel
 pub mod WholePoint
 pub mod WholeShift

@@ -22,7 +22,7 @@ use Rattle.axis.specs.Weights.{base}
 use Rattle.axis.specs.Neighbours.{firstNeighbour, outside}
 use Rattle.axis.specs.Point.{besideAt}
 use Rattle.coverage.specs.Coverage.{keptAt}
-use Rattle.promises.proofs.Upto.{Upto, upto-num, upto-half, upto-sum, upto-multiple, upto-quotient, upto-least, upto-kept, upto-below, upto-floor}
+use Rattle.exact.proofs.Upto.{Upto, upto-num, upto-half, upto-sum, upto-multiple, upto-quotient, upto-least, upto-kept, upto-below, upto-floor}
 
 -- what refusals 3 and 5 let pass, and a pad
 pub record Spread (length out pad : ℕ) : Type 0 where

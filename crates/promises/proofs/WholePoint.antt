@@ -29,7 +29,7 @@ use Rattle.axis.proofs.Inside.{index-inside}
 use Rattle.axis.proofs.Points.{placeOf, kept-inside}
 use Rattle.voxels.specs.Lent.{lent}
 use Rattle.voxels.specs.Voxel.{tapOf}
-use Rattle.promises.proofs.Halves.{floor-half}
+use Rattle.exact.proofs.Halves.{floor-half}
 use Rattle.promises.proofs.OneVoxel.{Unit}
 
 pub low-order : (P : ℕ → Type 0) → P 0 → P 1 → (order : ℕ) → order ≤ 1 → P order

@@ -1,4 +1,4 @@
--- A whole number and a half, rounded down, is that number: order 0 picks the voxel that a whole coordinate names.
+-- A whole number and a half, rounded down, is that number.
 use Prim.Native.Nat.{ℕ, zero, suc, _+_, _*_, _/_, _^_, _≤_}
 use native.Mathlib.Nat.{zero-lt-suc, mul-one}
 use native.Mathlib.Omega.{arith}
