@@ -2,10 +2,8 @@
 //! the folds; zooms that round from a tie; the longest axes; each limit alone and in pairs.
 
 use requests::plan::{Plan, Voxels, VOXELS};
-use requests::request::{Asked, Entry, ENTRIES};
+use requests::request::{Asked, Entry, CONSTANT, ENTRIES, MIRROR, MODES, NEAREST};
 use requests::spoils::{sound, SPOILS};
-
-const MODES: std::ops::Range<u32> = 0..5;
 
 pub fn plans() -> Vec<Plan> {
     let mut plans = Vec::new();
@@ -31,7 +29,7 @@ fn plain(entry: Entry, order: usize) -> Asked {
         order,
         axis: 0,
         prefilter: 0,
-        mode: 0,
+        mode: CONSTANT,
         fill: -7.25,
     }
 }
@@ -136,7 +134,7 @@ fn padded_edges() -> Vec<Plan> {
                         dims: [2, 3, 2],
                         factors: [0.0, shift, 0.0],
                         prefilter: 1,
-                        mode: 2,
+                        mode: NEAREST,
                         ..plain(Entry::Shift, order)
                     },
                     order as u64,
@@ -158,7 +156,7 @@ fn ties() -> Vec<Plan> {
                     Asked {
                         dims: [2, length, 2],
                         factors: [1.0, factor, 1.0],
-                        mode: 1,
+                        mode: MIRROR,
                         ..plain(Entry::Zoom, 1)
                     },
                     length as u64,

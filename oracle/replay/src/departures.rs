@@ -2,13 +2,7 @@
 //! 10 20 30 …, and that axis is moved.
 
 use requests::plan::{Plan, Voxels};
-use requests::request::{Asked, Entry};
-
-const CONSTANT: u32 = 0;
-const MIRROR: u32 = 1;
-const NEAREST: u32 = 2;
-const REFLECT: u32 = 3;
-const WRAP: u32 = 4;
+use requests::request::{Asked, Entry, CONSTANT, MIRROR, NEAREST, REFLECT, WRAP};
 
 /// Axes of 2: a mode, a shift, an order and the prefilter's flag.
 const SMALLEST: [(u32, f64, usize, u32); 9] = [

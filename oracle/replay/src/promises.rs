@@ -1,7 +1,7 @@
 //! What the file promises to have: every entry, mode, order and flag carried out, shifts that drop some
 //! voxels and keep others, and every refusal of every entry.
 
-use requests::request::{Entry, ENTRIES};
+use requests::request::{Entry, CONSTANT, ENTRIES, MODES, NEAREST, REFLECT};
 
 use crate::record::Answered;
 
@@ -13,7 +13,7 @@ pub fn check(calls: &[Answered]) -> Result<(), String> {
                 call.answer == *number
             })?;
         }
-        for mode in 0..5 {
+        for mode in MODES {
             for order in orders(entry) {
                 for choice in choices(entry) {
                     let what = format!("mode {mode}, order {order}, flag or axis {choice}");
@@ -35,8 +35,8 @@ pub fn check(calls: &[Answered]) -> Result<(), String> {
     Ok(())
 }
 
-/// Constant, Nearest, Reflect.
-const DROPPING: [u32; 3] = [0, 2, 3];
+/// The modes that drop voxels.
+const DROPPING: [u32; 3] = [CONSTANT, NEAREST, REFLECT];
 
 fn refusals(entry: Entry) -> &'static [u32] {
     match entry {

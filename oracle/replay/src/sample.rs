@@ -3,13 +3,8 @@
 
 use requests::document::LARGEST;
 use requests::plan::{Off, Plan, Voxels, VOXELS};
-use requests::request::{Asked, Entry};
+use requests::request::{Asked, Entry, MIRROR, MODES, NEAREST, REFLECT};
 use requests::spoils::sound;
-
-const MODES: std::ops::Range<u32> = 0..5;
-const MIRROR: u32 = 1;
-const NEAREST: u32 = 2;
-const REFLECT: u32 = 3;
 
 /// Of a volume of 2 by 3 by 4. Each mode that drops coordinates drops some in one of them and keeps
 /// others, at order 0 too: Constant and Nearest in the second, Reflect (at -8, four lengths below 0)

@@ -4,7 +4,7 @@
 use ndarray_ndimage::probe::map_coordinates;
 use ndarray_ndimage::BorderMode;
 
-use crate::request::{Asked, Entry, Request};
+use crate::request::{Asked, Entry, Request, CONSTANT, MIRROR, NEAREST, REFLECT, WRAP};
 
 /// The most places of a volume or of work.
 const MOST_PLACES: usize = 1 << 27;
@@ -157,11 +157,11 @@ impl Asked {
     /// The border mode that the numbers name.
     pub fn mode(&self) -> Option<BorderMode<f64>> {
         match self.mode {
-            0 => Some(BorderMode::Constant(self.fill)),
-            1 => Some(BorderMode::Mirror),
-            2 => Some(BorderMode::Nearest),
-            3 => Some(BorderMode::Reflect),
-            4 => Some(BorderMode::Wrap),
+            CONSTANT => Some(BorderMode::Constant(self.fill)),
+            MIRROR => Some(BorderMode::Mirror),
+            NEAREST => Some(BorderMode::Nearest),
+            REFLECT => Some(BorderMode::Reflect),
+            WRAP => Some(BorderMode::Wrap),
             _ => None,
         }
     }

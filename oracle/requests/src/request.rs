@@ -33,6 +33,15 @@ impl Entry {
     }
 }
 
+/// The border modes by their numbers in the door for C.
+pub const CONSTANT: u32 = 0;
+pub const MIRROR: u32 = 1;
+pub const NEAREST: u32 = 2;
+pub const REFLECT: u32 = 3;
+pub const WRAP: u32 = 4;
+
+pub const MODES: [u32; 5] = [CONSTANT, MIRROR, NEAREST, REFLECT, WRAP];
+
 /// The numbers of a request. An entry reads those that it has arguments for.
 #[derive(Clone, Copy)]
 pub struct Asked {
@@ -77,11 +86,11 @@ impl fmt::Display for Request {
         }
         write!(f, " order {} mode ", asked.order)?;
         match asked.mode {
-            0 => write!(f, "constant {:#018x}", asked.fill.to_bits())?,
-            1 => write!(f, "mirror")?,
-            2 => write!(f, "nearest")?,
-            3 => write!(f, "reflect")?,
-            4 => write!(f, "wrap")?,
+            CONSTANT => write!(f, "constant {:#018x}", asked.fill.to_bits())?,
+            MIRROR => write!(f, "mirror")?,
+            NEAREST => write!(f, "nearest")?,
+            REFLECT => write!(f, "reflect")?,
+            WRAP => write!(f, "wrap")?,
             unknown => write!(f, "{unknown}")?,
         }
         write!(f, " input")?;

@@ -2,7 +2,7 @@
 
 use crate::document::{FARTHEST, LARGEST};
 use crate::plan::Plan;
-use crate::request::{Asked, Entry};
+use crate::request::{Asked, Entry, CONSTANT, MIRROR, NEAREST};
 
 pub type Spoil = fn(&mut Plan);
 
@@ -18,7 +18,7 @@ pub fn sound(entry: Entry) -> Plan {
         order: 3,
         axis: 1,
         prefilter: 1,
-        mode: 0,
+        mode: CONSTANT,
         fill: -1.0,
     };
     Plan::of(asked, 1)
@@ -68,8 +68,8 @@ pub const SPOILS: &[Spoil] = &[
     |p| p.asked.dims = [512, 512, 512],
     |p| p.asked.dims = [512, 513, 512],
     |p| p.asked.dims = [4096, 4096, 4096],
-    |p| (p.asked.dims, p.asked.mode) = ([488, 488, 488], 2),
-    |p| (p.asked.dims, p.asked.mode) = ([488, 488, 489], 2),
+    |p| (p.asked.dims, p.asked.mode) = ([488, 488, 488], NEAREST),
+    |p| (p.asked.dims, p.asked.mode) = ([488, 488, 489], NEAREST),
     |p| (p.asked.dims, p.asked.factors) = ([2, 2, 2], [2048.0, 2048.0, 4.0]),
     |p| (p.asked.dims, p.asked.factors) = ([2, 2, 2], [4.5, 2048.0, 2048.0]),
     // 7
@@ -95,7 +95,7 @@ pub const SPOILS: &[Spoil] = &[
     |p| p.asked.fill = f64::NEG_INFINITY,
     |p| p.asked.fill = LARGEST.next_up(),
     |p| p.asked.fill = -LARGEST,
-    |p| (p.asked.mode, p.asked.fill) = (1, f64::NAN),
+    |p| (p.asked.mode, p.asked.fill) = (MIRROR, f64::NAN),
     // 9
     |p| (p.asked.order, p.asked.factors) = (0, [0.0, 0.0, -0.5]),
     |p| (p.asked.order, p.asked.factors) = (0, [5.0, 0.0, -0.5]),
