@@ -3,12 +3,12 @@
 // many numbers were compared, and how many lie outside.
 mod near;
 
-use answers::load::load;
-use answers::print::say;
-use answers::print::say_compared;
-use answers::print::say_end;
-use answers::print::say_whole;
-use answers::print::whole_part;
+use answer_file::load::load;
+use answer_file::print::say;
+use answer_file::print::say_compared;
+use answer_file::print::say_end;
+use answer_file::print::say_whole;
+use answer_file::print::whole_part;
 use near::Held;
 use near::hold_output;
 use near::missed;

@@ -1,11 +1,11 @@
 // How near our values come to SciPy's.
-use answers::replay::Replay;
-use answers::replay::counted;
-use answers::replay::moved_to;
-use answers::volumes::voxel;
-use answers::words::float_at;
-use answers::words::in_pool;
-use answers::words::whole_at;
+use answer_file::replay::Replay;
+use answer_file::replay::counted;
+use answer_file::replay::moved_to;
+use answer_file::volumes::voxel;
+use answer_file::words::float_at;
+use answer_file::words::in_pool;
+use answer_file::words::whole_at;
 use recorded::lengths::input_length;
 use recorded::lengths::output_length;
 

@@ -1,3 +1,3 @@
-// What the numbers of a C caller mean: the request that they ask for, and what they are told.
-pub mod asked;
-pub mod told;
+// What the numbers of a C caller mean: the request that they ask for, and what it is told.
+pub mod reports;
+pub mod requests;

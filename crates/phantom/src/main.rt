@@ -1,8 +1,8 @@
 // Demand 3, run: whole shifts move the voxels of a phantom exactly, and the opposite shifts bring them
 // back. Every voxel is compared; `stdout` holds the program to the totals.
 ghost use Prim.Native.Nat.{_≤_};
-use answers::print::say;
-use answers::print::say_whole;
+use answer_file::print::say;
+use answer_file::print::say_whole;
 use border::BorderMode;
 use request::Request;
 use resample::Answer;

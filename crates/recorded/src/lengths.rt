@@ -1,8 +1,8 @@
 // How long the buffers of a call are, and how much of them it writes. A length is cut to what the
 // programs' buffers hold; `is_call` says whether the words are a call as they stand.
 ghost use Prim.Native.Nat.{_≤_};
-use answers::words::whole_at;
-use answers::words::word_at;
+use answer_file::words::whole_at;
+use answer_file::words::word_at;
 
 // The words of a call.
 pub const CALL: usize = 25;

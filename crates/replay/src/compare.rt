@@ -1,14 +1,14 @@
 // What a call answered and left in the buffers, against the words of the call.
 ghost use Prim.Native.Nat.{_≤_};
-use answers::replay::Replay;
-use answers::replay::counted;
-use answers::replay::moved_to;
-use answers::volumes::expect_lane;
-use answers::volumes::expect_run;
-use answers::words::in_pool;
-use answers::words::whole_at;
-use answers::words::wide;
-use answers::words::word_at;
+use answer_file::replay::Replay;
+use answer_file::replay::counted;
+use answer_file::replay::moved_to;
+use answer_file::volumes::expect_lane;
+use answer_file::volumes::expect_run;
+use answer_file::words::in_pool;
+use answer_file::words::whole_at;
+use answer_file::words::wide;
+use answer_file::words::word_at;
 use recorded::calls::BLANK;
 use recorded::calls::NO_CODE;
 use recorded::lengths::coefficients;

@@ -3,14 +3,14 @@
 // refusal, how many numbers were compared, and how many differ.
 mod compare;
 
-use answers::load::load;
-use answers::print::say;
-use answers::print::say_compared;
-use answers::print::say_end;
-use answers::print::say_whole;
-use answers::replay::Replay;
-use answers::replay::moved_to;
-use answers::replay::refused;
+use answer_file::load::load;
+use answer_file::print::say;
+use answer_file::print::say_compared;
+use answer_file::print::say_end;
+use answer_file::print::say_whole;
+use answer_file::replay::Replay;
+use answer_file::replay::moved_to;
+use answer_file::replay::refused;
 use compare::expect_coverage;
 use compare::expect_output;
 use compare::expect_told;

@@ -5,12 +5,12 @@ ghost use Rattle.resample.specs.Call.{shiftCall, zoomCall, splineFilterCall, sp
 ghost use Rattle.numbers.specs.Numbers.{requestOf, plainRequestOf};
 ghost use Rattle.vurelika.specs.Door.{doorOf, doorBy, filterDoorOf, filterDoorBy, zoomLength, workCount};
 use axis::coordinate::output_length;
-use numbers::asked::is_mode;
-use numbers::asked::plain_request_of;
-use numbers::asked::request_of;
-use numbers::told::PLACES;
-use numbers::told::clear;
-use numbers::told::report;
+use numbers::reports::PLACES;
+use numbers::reports::clear;
+use numbers::reports::report;
+use numbers::requests::is_mode;
+use numbers::requests::plain_request_of;
+use numbers::requests::request_of;
 use refusal::number_by;
 use request::conditions::bad_length;
 use request::conditions::bad_lengths;

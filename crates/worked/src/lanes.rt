@@ -6,8 +6,8 @@ ghost use lib.ListN.{length};
 use crate::print::bits;
 use crate::print::say_codes;
 use crate::print::say_numbers;
-use answers::print::say;
-use answers::print::say_whole;
+use answer_file::print::say;
+use answer_file::print::say_whole;
 
 fn same_numbers(a: &[f64], b: &[f64]) -> bool {
     if a.len() != b.len() {

@@ -2,8 +2,8 @@
 // public entries and printed. `stdout` holds the program to the document's numbers.
 ghost use mathlib.Core.Path.{_≡_};
 ghost use lib.ListN.{length};
-use answers::print::say;
-use answers::print::say_whole;
+use answer_file::print::say;
+use answer_file::print::say_whole;
 use border::BorderMode;
 use lines::BLANK;
 use lines::shift_into;

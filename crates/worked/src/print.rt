@@ -1,7 +1,7 @@
 // Printing. Each number of a list has a space before it.
-use answers::print::say;
-use answers::print::say_whole;
-use answers::print::whole_part;
+use answer_file::print::say;
+use answer_file::print::say_whole;
+use answer_file::print::whole_part;
 use coverage::counts::Counts;
 use libc::STDOUT_FILENO;
 
