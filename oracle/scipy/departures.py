@@ -1,7 +1,7 @@
 """Document 01's departures: the coordinates at which SciPy and the Rust may differ.
 
-Run by itself it prints what SciPy gives for the smallest input of each, SciPy's column of
-docs/DIFFERENCES.md: a volume of 2 by 2 by 2, each lane of the last axis 10 20, shifted on that axis.
+Run by itself it prints what docs/DIFFERENCES.md says of SciPy: the smallest input of each departure (a
+volume of 2 by 2 by 2, each lane of the last axis 10 20, shifted on that axis), and what stands beside them.
 """
 
 import numpy as np
@@ -10,7 +10,6 @@ from scipy import ndimage
 
 PAD = 12
 FILL = -1.0
-LANES = np.broadcast_to([10.0, 20.0], (2, 2, 2))
 # departure, mode, shift, order, prefilter
 SMALLEST = [
     ("1", "nearest", 1, 1, False),
@@ -49,12 +48,34 @@ def zoomed(dims, outputs):
     return [[i * ((n - 1) / (m - 1)) for i in range(m)] for n, m in lengths]
 
 
-def main():
-    print("SciPy", scipy.__version__)
+def volume_of(*lane):
+    return np.broadcast_to(np.array(lane, float), (2, 2, len(lane)))
+
+
+def print_smallest():
     for departure, mode, shift, order, prefilter in SMALLEST:
         asked = dict(order=order, mode=mode, cval=FILL, prefilter=prefilter)
-        volume = ndimage.shift(LANES, (0, 0, shift), **asked)
+        volume = ndimage.shift(volume_of(10, 20), (0, 0, shift), **asked)
         print(f"{departure}: {mode}, shift {shift}, order {order}:", *volume[0, 0])
+
+
+def print_beside():
+    finer = ndimage.zoom(volume_of(*range(10, 90, 10)), (1, 1, 3.25), order=1, mode="constant", cval=FILL)
+    print("departure 3 in zoom, the last voxel:", finer[0, 0, -1])
+    for mode in ("constant", "mirror", "nearest", "reflect", "wrap"):
+        moved = ndimage.shift(volume_of(10, 20, 30, 40), (0, 0, -0.5), order=0, mode=mode, cval=FILL)
+        print(f"refusal 9, {mode}, shift -0.5:", *moved[0, 0])
+    far = ndimage.shift(volume_of(0, 1), (0, 0, -30), order=5, mode="nearest")
+    print("nearest beyond its far pad:", *far[0, 0])
+    for mode in ("reflect", "nearest", "mirror"):
+        filtered = ndimage.spline_filter1d(volume_of(7, 7), 3, axis=2, mode=mode)
+        print(f"a constant volume, {mode}:", *filtered[0, 0])
+
+
+def main():
+    print("SciPy", scipy.__version__)
+    print_smallest()
+    print_beside()
 
 
 if __name__ == "__main__":

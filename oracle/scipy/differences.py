@@ -1,7 +1,8 @@
 """differences.py ORACLE: puts the same shifts and zooms to SciPy and, through `ORACLE ask`, to the Rust.
 
 It counts the coordinates at which they differ by more than 1e-9 of the largest voxel, and fails if one
-of them is no departure of document 01. Where the Rust panics (refusal 9) there is nothing to compare.
+of them is no departure of document 01; of all others it gives the largest gap. Where the Rust panics
+(refusal 9) there is nothing to compare.
 """
 
 import collections
@@ -83,12 +84,18 @@ def is_listed(request, at):
     return departs(mode, source.shape[2], at, is_padded(mode, order, prefilter))
 
 
+def order_of(request):
+    *_, order, _, prefilter = request
+    return f"order {order}, prefiltered" if prefilter and order > 1 else f"order {order}"
+
+
 def main():
     asked = list(requests())
     answers = rusts_answers(sys.argv[1], [line(*request) for request in asked])
     pairs = zip(asked, answers, strict=True)
     answered = [(request, answer) for request, answer in pairs if answer != "panic"]
     seen, differ, unlisted = 0, collections.Counter(), []
+    rest = collections.defaultdict(float)
     for request, answer in answered:
         largest = np.abs(request[1]).max()
         for at, gap in gaps(request, answer):
@@ -97,9 +104,15 @@ def main():
                 differ[request[4]] += 1
                 if not is_listed(request, at):
                     unlisted.append((line(*request), at, gap))
+            else:
+                of = order_of(request)
+                rest[of] = max(rest[of], gap / largest)
     panics = len(asked) - len(answered)
     print(f"SciPy {scipy.__version__}: {len(asked)} requests; the Rust panics at {panics}")
     print(f"{seen} coordinates, {differ.total()} differ: {dict(differ)}; {len(unlisted)} at no departure")
+    print("largest gap elsewhere, over the largest voxel:")
+    for of, gap in sorted(rest.items()):
+        print(f"  {of}: {gap:.1e}")
     for difference in unlisted[:10]:
         print(*difference)
     sys.exit(1 if unlisted else 0)

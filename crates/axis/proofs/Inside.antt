@@ -25,7 +25,8 @@ use Rattle.border.specs.Fold.{fold}
 use Rattle.border.specs.Landing.{FarEven, OnVoxel, Lands}
 use Rattle.border.proofs.Landing.{sides, not-far, fold-lands}
 use Rattle.axis.specs.Weights.{base}
-use Rattle.axis.specs.Neighbours.{firstNeighbour, outside, neighbourMode, neighbour, neighbourIndex, Indexes}
+use Rattle.axis.specs.Neighbours.{firstNeighbour, outside, splineMode, neighbour, neighbourIndex}
+use Rattle.axis.specs.Bookkeeping.{Indexes}
 
 -- ---- differences of natural numbers, as integers
 minus-minus : (a b c : ℕ) → pos a -ℤ pos b -ℤ pos c ≡ pos a -ℤ pos (b + c)
@@ -79,16 +80,16 @@ module _ (first : Float) (c m : ℕ) (most : c ≤ 2 ^ 31 + 1) (small : m ≤ 3)
     | inr b ↦ not-far (c + k - m) L l (subst (λ (z : ℤ). FarEven L z) (sym (diff-pos (c + k) m b)) f)
   ]
 
-  on-voxel : (mode : BorderMode) {L : ℕ} {n : ℤ} {r : Float} → (FarEven L n → ⊥) → Lands (neighbourMode mode) L n r → OnVoxel (neighbourMode mode) L n r
+  on-voxel : (mode : BorderMode) {L : ℕ} {n : ℤ} {r : Float} → (FarEven L n → ⊥) → Lands (splineMode mode) L n r → OnVoxel (splineMode mode) L n r
   on-voxel (Constant fill) far l = l .follows (λ z. z)
   on-voxel Mirror far l = l .follows (λ z. z)
   on-voxel Nearest far l = l .follows (λ z. z)
   on-voxel Reflect far l = l .follows far
   on-voxel Wrap far l = l .follows (λ z. z)
 
-  folded-inside : (mode : BorderMode) (k L : ℕ) → k ≤ 5 → 2 ≤ L → L ≤ 4120 → (i : ℕ) × (i < L) × Is (fold (neighbourMode mode) (first ⊕ num k) (num L)) (pos i)
+  folded-inside : (mode : BorderMode) (k L : ℕ) → k ≤ 5 → 2 ≤ L → L ≤ 4120 → (i : ℕ) × (i < L) × Is (fold (splineMode mode) (first ⊕ num k) (num L)) (pos i)
   folded-inside mode k L l two top =
-      let v = on-voxel mode (near k L two) (fold-lands (neighbourMode mode) (pos (c + k) -ℤ pos m) L (nth-is k l) (num-is L (omega arith)) two top (le-trans (size-minus (c + k) m) (omega arith))) in
+      let v = on-voxel mode (near k L two) (fold-lands (splineMode mode) (pos (c + k) -ℤ pos m) L (nth-is k l) (num-is L (omega arith)) two top (le-trans (size-minus (c + k) m) (omega arith))) in
       (v .i, v .stands .voxel, v .is)
 
   -- where none lies outside, each is inside as it stands

@@ -21,7 +21,8 @@ use Rattle.exact.proofs.Withins.{W-within, mul-within}
 use Rattle.exact.proofs.Ranges.{Between}
 use Rattle.exact.proofs.Rounds.{round-between}
 use Rattle.exact.proofs.Casts.{toUnsigned-is, unsigned-asks}
-use Rattle.axis.specs.Length.{outputLength, Zooms}
+use Rattle.axis.specs.Length.{outputLength}
+use Rattle.axis.specs.Bookkeeping.{Zooms}
 
 -- ---- a factor above 0 and up to 4,096
 record Factor (f : Float) : Type 0 where

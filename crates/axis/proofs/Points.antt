@@ -16,23 +16,25 @@ use Rattle.exact.specs.Rounded.{_⊕_, num}
 use Rattle.exact.specs.Within.{Within}
 use Rattle.exact.proofs.Value.{of-true}
 use Rattle.exact.proofs.Above.{Above}
-use Rattle.lists.specs.Tabulate.{Filled}
+use Rattle.lists.specs.Bookkeeping.{Filled}
 use Rattle.lists.proofs.Tabulated.{is-tabulate}
 use Rattle.lists.proofs.Stretches.{store}
 use Rattle.border.specs.declared.BorderMode.{BorderMode}
 use Rattle.border.specs.Fold.{fold}
 use Rattle.axis.specs.declared.coordinate.Axis.{Axis}
-use Rattle.axis.specs.declared.taps.Taps.{Taps}
+use Rattle.axis.specs.declared.point.Point.{Point}
 use Rattle.axis.specs.Coordinate.{settled, kept}
 use Rattle.axis.specs.Weights.{buildSplines}
-use Rattle.axis.specs.Neighbours.{firstNeighbour, outside, neighbourMode, neighbour, neighbourIndex, Indexes}
-use Rattle.axis.specs.Point.{empty, neighbours, keptPoint, pointAt, besideAt, Reached, Kept}
+use Rattle.axis.specs.Neighbours.{firstNeighbour, outside, splineMode, neighbour, neighbourIndex}
+use Rattle.axis.specs.Bookkeeping.{Indexes}
+use Rattle.axis.specs.Point.{empty, neighbours, keptPoint, pointAt, besideAt}
+use Rattle.axis.specs.Bookkeeping.{Reached, Kept}
 use Rattle.axis.proofs.Reaches.{settled-within}
 use Rattle.axis.proofs.Inside.{index-asks}
 
 -- ---- one neighbour
 module _ (mode : BorderMode) (len : ℕ) (first : Float) (k : ℕ) {f : Float} (e : f ≡ num k) where
-  pub folded : {out : Bool} {l r : Float} {s : BorderMode} → out ≡ true → l ≡ num len → s ≡ neighbourMode mode → r ≡ fold s (first ⊕ f) l → r ≡ neighbour mode out len first k
+  pub folded : {out : Bool} {l r : Float} {s : BorderMode} → out ≡ true → l ≡ num len → s ≡ splineMode mode → r ≡ fold s (first ⊕ f) l → r ≡ neighbour mode out len first k
   unfolding neighbour
   folded o p q h = h ∙ (λ i. fold (q i) (first ⊕ e i) (p i)) ∙ simp o
 
@@ -128,7 +130,7 @@ markOf true true = 2
 markOf true false = 0
 markOf false outside = 1
 
-mark-is : (t u : Bool) (p : Taps) → p .mark ≡ 0 → cond t (cond (true && u) (empty 2) p) (empty 1) .mark ≡ markOf t u
+mark-is : (t u : Bool) (p : Point) → p .mark ≡ 0 → cond t (cond (true && u) (empty 2) p) (empty 1) .mark ≡ markOf t u
 mark-is true true p e = refl
 mark-is true false p e = e
 mark-is false u p e = refl

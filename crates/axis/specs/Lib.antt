@@ -5,3 +5,5 @@ pub mod Weights
 pub mod Neighbours
 pub mod Point
 pub mod Worked
+-- The code's own bookkeeping. No promise speaks of it.
+pub mod Bookkeeping

@@ -1,9 +1,7 @@
 -- "The first neighbour is that floor minus half the order, rounded down. If any of order + 1 neighbours lies outside, all pass through the fold: Mirror for Constant and Wrap, else the mode's own; Nearest clamps to 0 and L - 1."
 use Prim.Native.Nat.{ℕ, _/_}
-use mathlib.Core.Bool.{Bool, true, false, _||_, cond}
-use lib.IntN.{pos}
-use lib.Dec.{T}
-use lib.Ieee.{Float, fin, lt, le, toUnsigned}
+use mathlib.Core.Bool.{Bool, _||_, cond}
+use lib.Ieee.{Float, lt, le, toUnsigned}
 use Rattle.exact.specs.Rounded.{_⊕_, _⊖_, num}
 use Rattle.border.specs.Fold.{fold}
 use Rattle.border.specs.declared.BorderMode.{BorderMode}
@@ -19,23 +17,19 @@ firstNeighbour order to = base order to ⊖ num (order / 2)
 abbrev pub outside : ℕ → ℕ → Float → Bool
 outside order len first = lt first (num 0) || le (num len) (first ⊕ num order)
 
-abbrev pub neighbourMode : BorderMode → BorderMode
-neighbourMode (Constant fill) = Mirror
-neighbourMode Mirror = Mirror
-neighbourMode Nearest = Nearest
-neighbourMode Reflect = Reflect
-neighbourMode Wrap = Mirror
+abbrev pub splineMode : BorderMode → BorderMode
+splineMode (Constant fill) = Mirror
+splineMode Mirror = Mirror
+splineMode Nearest = Nearest
+splineMode Reflect = Reflect
+splineMode Wrap = Mirror
 
 -- the neighbour k places after the first, as a number; `out` says that one of them lies outside
 unfoldable pub neighbour : BorderMode → Bool → ℕ → Float → ℕ → Float
 unfolding fold
-neighbour mode out len first k = cond out (fold (neighbourMode mode) (first ⊕ num k) (num len)) (first ⊕ num k)
+neighbour mode out len first k = cond out (fold (splineMode mode) (first ⊕ num k) (num len)) (first ⊕ num k)
 
 -- and as an index
 unfoldable pub neighbourIndex : BorderMode → Bool → ℕ → Float → ℕ → ℕ
 unfolding neighbour
 neighbourIndex mode out len first k = toUnsigned 64 (neighbour mode out len first k)
-
--- x can be cut to an index: it is above -1 and below 2^64
-abbrev pub Indexes : Float → Type 0
-Indexes x = T (lt (fin true 1 (pos 0)) x) × T (lt x (fin false 1 (pos 64)))

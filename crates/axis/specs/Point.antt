@@ -1,22 +1,21 @@
 -- "One record per output index of an axis carries up to six weights and six neighbours." With it stands its mark.
-use Prim.Native.Nat.{ℕ, _≤_}
+use Prim.Native.Nat.{ℕ}
 use mathlib.Core.Bool.{Bool, _&&_, cond}
 use mathlib.Core.List.{List}
-use lib.Dec.{T, leb, eqb}
+use lib.Dec.{leb, eqb}
 use lib.ListN.{replicate}
 use lib.Ieee.{Float}
 use Rattle.exact.specs.Rounded.{num}
-use Rattle.exact.specs.Within.{Within}
 use Rattle.lists.specs.Tabulate.{tabulate}
 use Rattle.border.specs.declared.BorderMode.{BorderMode}
 use Rattle.axis.specs.declared.coordinate.Axis.{Axis}
-use Rattle.axis.specs.declared.taps.Taps.{Taps}
+use Rattle.axis.specs.declared.point.Point.{Point}
 use Rattle.axis.specs.Coordinate.{coordinate, settled, kept}
 use Rattle.axis.specs.Weights.{buildSplines}
 use Rattle.axis.specs.Neighbours.{firstNeighbour, outside, neighbourIndex}
 
 -- a record that reads nothing: mark 1 is dropped, mark 2 is kept at order 0 but outside, where refusal 9 stands
-abbrev pub empty : ℕ → Taps
+abbrev pub empty : ℕ → Point
 empty mark = record { mark = mark; weight = replicate 6 (num 0); at = replicate 6 0 }
 
 -- the order + 1 neighbours, and 0 in the other of six places
@@ -25,30 +24,15 @@ unfolding neighbourIndex tabulate
 neighbours mode order len first = tabulate 6 (λ k. cond (leb k order) (neighbourIndex mode (outside order len first) len first k) 0)
 
 -- the record of a kept coordinate
-unfoldable pub keptPoint : ℕ → BorderMode → ℕ → Float → Taps
+unfoldable pub keptPoint : ℕ → BorderMode → ℕ → Float → Point
 unfolding buildSplines firstNeighbour neighbours
 keptPoint order mode len to =
     let first = firstNeighbour order to in
     cond (eqb order 0 && outside order len first) (empty 2) (record { mark = 0; weight = buildSplines order to; at = neighbours mode order len first })
 
-unfoldable pub pointAt : ℕ → BorderMode → Axis → ℕ → Taps
+unfoldable pub pointAt : ℕ → BorderMode → Axis → ℕ → Point
 unfolding settled keptPoint
 pointAt order mode a i = cond (kept (settled mode a i)) (keptPoint order mode (a .len) (settled mode a i)) (empty 1)
-
--- an order, an axis and an output index that an admitted request can have
-pub record Reached (order : ℕ) (a : Axis) (i : ℕ) : Type 0 where
-  pub upto : order ≤ 5
-  pub least : 2 ≤ a .len
-  pub most : a .len ≤ 4120
-  pub bound : Within 26 (coordinate a i)
-
--- and a coordinate that is kept there
-pub record Kept (order len : ℕ) (to : Float) : Type 0 where
-  pub upto : order ≤ 5
-  pub least : 2 ≤ len
-  pub most : len ≤ 4120
-  pub bound : Within 30 to
-  pub above : T (kept to)
 
 -- "at order 0 some axis has a coordinate that is kept but rounds to an index outside that axis": this output index has
 unfoldable pub besideAt : BorderMode → Axis → ℕ → Bool

@@ -1,11 +1,11 @@
 // The map from output indices to coordinates, and zoom's output length.
 ghost use mathlib.Core.Path.{_≡_};
 ghost use Prim.Native.Nat.{_≤_};
-ghost use lib.Dec.{T};
-ghost use lib.Ieee.{lt, le};
+ghost use Rattle.limits.specs.Limits.{longest};
 ghost use Rattle.exact.specs.Rounded.{num};
 ghost use Rattle.axis.specs.Coordinate.{coordinate, settled, isNearest, padOf, shiftAxis, zoomAxis};
-ghost use Rattle.axis.specs.Length.{outputLength, Zooms};
+ghost use Rattle.axis.specs.Length.{outputLength};
+ghost use Rattle.axis.specs.Bookkeeping.{Zooms};
 use border::BorderMode;
 use border::map_coordinates;
 
@@ -52,7 +52,7 @@ pub fn pad_of(mode: BorderMode, prefilter: bool, order: usize) -> usize
 }
 
 pub fn shift_axis(length: usize, shift: f64, pad: usize) -> Axis
-    requires { ⌜ (length ≤ 4096) × (pad ≤ 12) ⌝ }
+    requires { ⌜ (length ≤ longest) × (pad ≤ 12) ⌝ }
     ensures { λ r. ⌜ r ≡ shiftAxis length shift pad ⌝ }
 {
     Axis {
@@ -65,7 +65,7 @@ pub fn shift_axis(length: usize, shift: f64, pad: usize) -> Axis
 }
 
 pub fn zoom_axis(length: usize, out: usize, pad: usize) -> Axis
-    requires { ⌜ ((1 ≤ length) × (length ≤ 4096)) × ((1 ≤ out) × (pad ≤ 12)) ⌝ }
+    requires { ⌜ ((1 ≤ length) × (length ≤ longest)) × ((1 ≤ out) × (pad ≤ 12)) ⌝ }
     ensures { λ r. ⌜ r ≡ zoomAxis length out pad ⌝ }
 {
     Axis {

@@ -6,11 +6,13 @@ use mathlib.Core.Bool.{Bool, false, _&&_}
 use mathlib.Core.List.{List}
 use lib.Arith.{digits-div, digits-mod}
 use lib.ListN.{getD}
-use Rattle.lists.specs.Tabulate.{tabulate, Filled}
+use Rattle.lists.specs.Tabulate.{tabulate}
+use Rattle.lists.specs.Bookkeeping.{Filled}
 use Rattle.lists.proofs.Tabulated.{getD-tabulate, tabulate-same}
 use Rattle.border.specs.declared.BorderMode.{BorderMode}
 use Rattle.axis.specs.declared.coordinate.Axis.{Axis}
-use Rattle.coverage.specs.Coverage.{keptAt, codeBy, codeAt, codes, codeInPlane, codeByFlags, xOf, yOf, zOf}
+use Rattle.coverage.specs.Coverage.{keptAt, codeBy, codeAt, codes, xOf, yOf, zOf}
+use Rattle.coverage.specs.Bookkeeping.{codeInPlane, codeByFlags}
 
 -- a row that was written is row j of its plane
 pub row-filled : (mode : BorderMode) (ya : Axis) (row : ℕ) (first others : Bool) (flags : List Bool) (j : ℕ) (ys : List ℕ) → others ≡ (first && keptAt mode ya j) → ys ≡ tabulate row (λ k. codeBy mode (others && getD flags k false)) → Filled (λ (m : ℕ). codeInPlane mode ya row first flags (j * row + m)) 0 ys row

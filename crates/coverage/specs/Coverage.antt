@@ -1,9 +1,8 @@
 -- "Coverage codes. 0: computed from input voxels. 1: dropped, Constant. 2: dropped, any other mode. The counts say how many voxels bear each code and sum to the output count. The running counts are handed back with each new code added."
 use Prim.Native.Nat.{ℕ, _+_, _*_, _/_, _%_}
-use mathlib.Core.Bool.{Bool, false, _&&_, cond}
+use mathlib.Core.Bool.{Bool, _&&_, cond}
 use mathlib.Core.List.{List, [], _∷_}
 use lib.Dec.{eqb}
-use lib.ListN.{getD}
 use lib.Ieee.{Float}
 use Rattle.exact.specs.Rounded.{num}
 use Rattle.lists.specs.Tabulate.{tabulate}
@@ -57,15 +56,6 @@ codes mode xa ya za =
     let row = za .out in
     let plane = ya .out * row in
     tabulate (xa .out * plane) (λ m. codeAt mode xa ya za (xOf plane m) (yOf plane row m) (zOf plane row m))
-
--- ---- the same by flags of the last axis, as the code has them: in a plane whose index on axis 0 is kept or not, and in the volume
-abbrev pub codeInPlane : BorderMode → Axis → ℕ → Bool → List Bool → ℕ → ℕ
-codeInPlane mode ya row first flags m = codeBy mode (first && keptAt mode ya (m / row) && getD flags (m % row) false)
-
-abbrev pub codeByFlags : BorderMode → Axis → Axis → ℕ → List Bool → ℕ → ℕ
-codeByFlags mode xa ya row flags m =
-    let plane = ya .out * row in
-    codeInPlane mode ya row (keptAt mode xa (xOf plane m)) flags (m % plane)
 
 -- ---- counts
 abbrev pub none : Counts

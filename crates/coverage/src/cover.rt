@@ -1,13 +1,17 @@
 // The coverage of a volume: the code of every voxel. No voxel is read here.
 ghost use mathlib.Core.Path.{_≡_};
 ghost use mathlib.Core.Bool.{false, _&&_, cond};
-ghost use Prim.Native.Nat.{ℕ, _+_, _*_, _/_, _%_, _<_, _≤_};
+ghost use Prim.Native.Nat.{_+_, _*_, _/_, _<_, _≤_};
 ghost use lib.ListN.{length, getD};
-ghost use Rattle.lists.specs.Tabulate.{tabulate, Filled};
-ghost use Rattle.coverage.specs.Coverage.{dropCode, keptAt, codeBy, codes, codeInPlane, codeByFlags};
+ghost use Rattle.limits.specs.Limits.{longest};
+ghost use Rattle.lists.specs.Tabulate.{tabulate};
+ghost use Rattle.lists.specs.Bookkeeping.{Filled};
+ghost use Rattle.coverage.specs.Coverage.{dropCode, keptAt, codeBy, codes};
+ghost use Rattle.coverage.specs.Bookkeeping.{codeInPlane, codeByFlags};
 use axis::coordinate::Axis;
 use axis::coordinate::settled_at;
 use border::BorderMode;
+use limits::LONGEST;
 
 // The code of a dropped voxel.
 pub fn drop_code(mode: BorderMode) -> u8
@@ -96,8 +100,8 @@ fn cover_planes(
     row: usize,
     mode: BorderMode,
 )
-    requires { ⌜ (1 ≤ row) × ((row ≤ 4096) × (row ≤ length (now kept))) ⌝ }
-    requires { ⌜ ya .out ≤ 4096 ⌝ }
+    requires { ⌜ (1 ≤ row) × ((row ≤ longest) × (row ≤ length (now kept))) ⌝ }
+    requires { ⌜ ya .out ≤ longest ⌝ }
     requires { ⌜ length (now coverage) ≡ xa .out * (ya .out * row) ⌝ }
     ensures { λ _. ⌜ now (coverage .exit) ≡ tabulate (xa .out * (ya .out * row)) (codeByFlags mode xa ya row (now (kept .entry))) ⌝ }
 {
@@ -121,10 +125,10 @@ fn cover_planes(
 // The whole coverage.
 pub fn cover(coverage: &mut [u8], xa: Axis, ya: Axis, za: Axis, mode: BorderMode)
     requires { ⌜ length (now coverage) ≡ xa .out * (ya .out * za .out) ⌝ }
-    requires { ⌜ (ya .out ≤ 4096) × ((1 ≤ za .out) × (za .out ≤ 4096)) ⌝ }
+    requires { ⌜ (ya .out ≤ longest) × ((1 ≤ za .out) × (za .out ≤ longest)) ⌝ }
     ensures { λ _. ⌜ now (coverage .exit) ≡ codes mode xa ya za ⌝ }
 {
-    let mut kept = [false; 4096];
+    let mut kept = [false; LONGEST];
     mark_kept(&mut kept, za, mode);
     cover_planes(coverage, &kept, xa, ya, za.out, mode);
 }

@@ -8,13 +8,14 @@ use borrow.Rule.Slice.PartMut.{same-len-mid}
 use lib.Arith.{digits-lt, digits-div, digits-mod}
 use lib.ListN.{length, getD, take, drop}
 use lib.Ieee.{Float, nan}
-use Rattle.lists.specs.Tabulate.{Filled}
+use Rattle.lists.specs.Bookkeeping.{Filled}
 use Rattle.lists.proofs.Tabulated.{getD-tabulate, is-tabulate}
 use Rattle.lists.proofs.Stretches.{next, splice, in-part}
 use Rattle.lane.specs.Lane.{at}
 use Rattle.prefilter.specs.Volume.{countOf}
 use Rattle.prefilter.proofs.Blocks.{lent}
-use Rattle.edge.specs.Edge.{clamped, paddedDims, paddedRow, paddedPlane, padded}
+use Rattle.edge.specs.Edge.{clamped, paddedDims, padded}
+use Rattle.edge.specs.Bookkeeping.{paddedRow, paddedPlane}
 
 pub clamped-within : (n k : ℕ) → 1 ≤ n → clamped n k < n
 clamped-within n k h = omega (arith, min-le-right (k - 12) (n - 1))

@@ -1,7 +1,7 @@
 -- "Nearest in `shift` and `zoom` first pads 12 edge copies on every side." The padded volume has at each place the voxel at the clamped index.
 use Prim.Native.Nat.{ℕ, _+_, _-_, _*_, _/_, _%_, min}
 use mathlib.Core.List.{List, [], _∷_}
-use lib.ListN.{length, getD}
+use lib.ListN.{getD}
 use lib.Ieee.{Float}
 use Rattle.lists.specs.Tabulate.{tabulate}
 use Rattle.lane.specs.Lane.{at}
@@ -20,15 +20,6 @@ source d m =
     let row = getD d 2 0 + 24 in
     let plane = (getD d 1 0 + 24) * row in
     (clamped (getD d 0 0) (m / plane) * getD d 1 0 + clamped (getD d 1 0) (m % plane / row)) * getD d 2 0 + clamped (getD d 2 0) (m % plane % row)
-
--- the same of one row, and of one plane
-unfoldable pub paddedRow : List Float → List Float
-unfolding tabulate
-paddedRow xs = tabulate (length xs + 24) (λ k. at xs (clamped (length xs) k))
-
-unfoldable pub paddedPlane : ℕ → ℕ → List Float → List Float
-unfolding tabulate
-paddedPlane rows row xs = tabulate ((rows + 24) * (row + 24)) (λ m. at xs (clamped rows (m / (row + 24)) * row + clamped row (m % (row + 24))))
 
 unfoldable pub padded : List ℕ → List Float → List Float
 unfolding tabulate

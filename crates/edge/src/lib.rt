@@ -2,8 +2,10 @@
 ghost use mathlib.Core.Path.{_≡_};
 ghost use Prim.Native.Nat.{_+_, _*_, _≤_, _<_};
 ghost use lib.ListN.{length};
-ghost use Rattle.prefilter.specs.Volume.{Sized, countOf};
-ghost use Rattle.edge.specs.Edge.{clamped, padded, paddedDims, paddedRow, paddedPlane};
+ghost use Rattle.prefilter.specs.Volume.{countOf};
+ghost use Rattle.prefilter.specs.Bookkeeping.{Sized};
+ghost use Rattle.edge.specs.Edge.{clamped, padded, paddedDims};
+ghost use Rattle.edge.specs.Bookkeeping.{paddedRow, paddedPlane};
 
 // The index that padded index k copies, on an axis of n voxels.
 fn clamp(n: usize, k: usize) -> usize

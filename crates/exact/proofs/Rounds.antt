@@ -19,7 +19,8 @@ use borrow.Author.Tests.{ltb-true, ltb-false, ne-eqb}
 use Rattle.exact.specs.Rounded.{half}
 use Rattle.exact.specs.Whole.{W, Is}
 use Rattle.exact.specs.Floor.{floorF}
-use Rattle.exact.specs.Round.{roundTiesEvenF, NotBelowZero}
+use Rattle.exact.specs.Round.{roundTiesEvenF}
+use Rattle.exact.specs.Bookkeeping.{NotBelowZero}
 use Rattle.exact.proofs.Value.{is-true, add-val, lt-val}
 use Rattle.exact.proofs.Whole.{W-val, add-W, mul-W-nat}
 use Rattle.exact.proofs.Is.{round-is}

@@ -5,3 +5,5 @@ pub mod Floor
 pub mod Round
 pub mod Within
 pub mod Same
+-- The code's own bookkeeping. No promise speaks of it.
+pub mod Bookkeeping

@@ -1,7 +1,8 @@
 // Whole numbers among the floats: floor, and rounding to the nearest whole number.
 ghost use mathlib.Core.Path.{_≡_};
 ghost use Rattle.exact.specs.Floor.{floorF};
-ghost use Rattle.exact.specs.Round.{roundTiesEvenF, NotBelowZero};
+ghost use Rattle.exact.specs.Round.{roundTiesEvenF};
+ghost use Rattle.exact.specs.Bookkeeping.{NotBelowZero};
 
 // The largest whole number that is at most x, as Rust's `f64::floor`: 0.5 gives 0.0 and -0.5 gives
 // -1.0. A zero keeps its sign, and a NaN and the infinities are returned. Past 2^53 every float is

@@ -9,7 +9,8 @@ use lib.Ieee.{Float}
 use Rattle.exact.specs.Rounded.{_⊗_}
 use Rattle.lists.proofs.Tabulated.{length-tabulate}
 use Rattle.poles.specs.declared.Poles.{Poles}
-use Rattle.poles.specs.Poles.{Pole, polesIn, Sound}
+use Rattle.poles.specs.Poles.{Pole}
+use Rattle.poles.specs.Bookkeeping.{polesIn, Sound}
 use Rattle.poles.proofs.Held.{poleAt, one-in, two-in}
 use Rattle.lane.specs.Lane.{initCausal, causalAt, causal, initAnticausal, anticausal, passPole, passPoles, filterLane}
 

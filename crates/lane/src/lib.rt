@@ -5,9 +5,11 @@ ghost use Prim.Native.Nat.{_≤_, _<_, _-_};
 ghost use mathlib.Core.List.{map};
 ghost use lib.ListN.{length, take, set};
 ghost use Rattle.exact.specs.Rounded.{_⊗_};
-ghost use Rattle.poles.specs.Poles.{polesIn, Sound};
+ghost use Rattle.limits.specs.Limits.{longestPadded};
+ghost use Rattle.poles.specs.Bookkeeping.{polesIn, Sound};
 ghost use Rattle.poles.specs.Power.{power};
 ghost use Rattle.lane.specs.Lane.{nearSum, wholeSum, reflectSum, initCausalMirror, initCausalReflect, initCausal, initAnticausal, causal, anticausal, passPole, filterLane};
+use limits::LONGEST_PADDED;
 use poles::Poles;
 use poles::powi;
 
@@ -275,16 +277,16 @@ fn filter_slices(
 // The same over lines of 4,120 numbers: a slice brings its length, as an array behind a reference does
 // not.
 pub fn filter_lines(
-    a: &mut [f64; 4120],
-    b: &mut [f64; 4120],
-    c: &mut [f64; 4120],
-    d: &mut [f64; 4120],
+    a: &mut [f64; LONGEST_PADDED],
+    b: &mut [f64; LONGEST_PADDED],
+    c: &mut [f64; LONGEST_PADDED],
+    d: &mut [f64; LONGEST_PADDED],
     n: usize,
     p: Poles,
     gain: f64,
     reflect: bool,
 )
-    requires { ⌜ (2 ≤ n) × (n ≤ 4120) ⌝ }
+    requires { ⌜ (2 ≤ n) × (n ≤ longestPadded) ⌝ }
     requires { ⌜ Sound p ⌝ }
     ensures { λ _. ⌜ take n (now (a .exit)) ≡ filterLane reflect (polesIn p) gain (take n (now (a .entry))) ⌝ }
     ensures { λ _. ⌜ take n (now (b .exit)) ≡ filterLane reflect (polesIn p) gain (take n (now (b .entry))) ⌝ }

@@ -6,7 +6,7 @@ use native.Mathlib.Omega.{arith}
 use native.Mathlib.Nat.{mul-comm, mul-assoc, add-mul, mod-lt, mod-eq-of-lt, div-one, div-add-mod', div-lt-iff-lt-mul, mul-add-div-right, mul-add-mod-self-right, mul-le-mul-right, le-mul-of-pos-right, le-antisymm, le-of-mul-le-mul-right}
 use lib.Arith.{digits-lt, digits-div, digits-mod}
 use Rattle.lanes.specs.Along.{along}
-use Rattle.lanes.specs.Lanes.{Grid}
+use Rattle.lanes.specs.Bookkeeping.{Grid}
 
 -- a place of a lane is no further than the last
 pub reaches : (i n stride : ℕ) → i < n → i * stride ≤ (n - 1) * stride

@@ -11,7 +11,7 @@ use lib.Seq.{ext-getD}
 use lib.Ieee.{Float, nan}
 use Rattle.lane.specs.Lane.{at}
 use Rattle.lanes.specs.Along.{laneOf, along, filterAlong}
-use Rattle.lanes.specs.Lanes.{Grid, Written, Replaced, lanesBy}
+use Rattle.lanes.specs.Bookkeeping.{Grid, Written, Replaced, lanesBy}
 use Rattle.lanes.proofs.Grids.{on-lane, apart}
 use Rattle.lanes.proofs.Alongs.{lane-same, length-along, at-along}
 

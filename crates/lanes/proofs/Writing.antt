@@ -10,7 +10,7 @@ use lib.ListN.{length, take, set, length-set}
 use lib.Seq.{getD-set-same, getD-set-other, getD-take}
 use lib.Ieee.{Float, nan}
 use Rattle.lane.specs.Lane.{at}
-use Rattle.lanes.specs.Lanes.{Written}
+use Rattle.lanes.specs.Bookkeeping.{Written}
 
 pub nothing : (stride start : ℕ) (c xs : List Float) → Written 0 stride start c xs xs
 nothing stride start c xs = record { same = refl; lane = λ i h. absurd (not-suc-le-zero h); rest = λ m o. refl }

@@ -1,3 +1,4 @@
--- The lanes of a buffer: the filter along them, and how they lie.
+-- The lanes of a buffer, and the filter along them.
 pub mod Along
-pub mod Lanes
+-- The code's own bookkeeping. No promise speaks of it.
+pub mod Bookkeeping

@@ -2,11 +2,13 @@
 ghost use mathlib.Core.Path.{_≡_};
 ghost use Prim.Native.Nat.{_+_, _*_, _-_, _≤_, _<_};
 ghost use lib.ListN.{length, take};
-ghost use Rattle.poles.specs.Poles.{polesIn, Sound};
+ghost use Rattle.limits.specs.Limits.{longestPadded};
+ghost use Rattle.poles.specs.Bookkeeping.{polesIn, Sound};
 ghost use Rattle.lane.specs.Lane.{filterLane};
 ghost use Rattle.lanes.specs.Along.{laneOf, filterAlong};
-ghost use Rattle.lanes.specs.Lanes.{Written, Grid, Replaced, lanesBy};
+ghost use Rattle.lanes.specs.Bookkeeping.{Written, Grid, Replaced, lanesBy};
 use lane::filter_lines;
+use limits::LONGEST_PADDED;
 use poles::Poles;
 
 // The lane that starts at `start`, into the line.
@@ -23,8 +25,8 @@ fn take_lane(line: &mut [f64], data: &[f64], start: usize, stride: usize, n: usi
 }
 
 // The line, back to its lane.
-fn put_lane(data: &mut [f64], line: &[f64; 4120], start: usize, stride: usize, n: usize)
-    requires { ⌜ (1 ≤ n) × (n ≤ 4120) ⌝ }
+fn put_lane(data: &mut [f64], line: &[f64; LONGEST_PADDED], start: usize, stride: usize, n: usize)
+    requires { ⌜ (1 ≤ n) × (n ≤ longestPadded) ⌝ }
     requires { ⌜ 1 ≤ stride ⌝ }
     requires { ⌜ start + (n - 1) * stride < length (now «data») ⌝ }
     ensures { λ _. ⌜ Written n stride start (take n (now (line .entry))) (now («data» .entry)) (now («data» .exit)) ⌝ }
@@ -57,7 +59,7 @@ fn take_one(
 
 fn put_one(
     data: &mut [f64],
-    line: &[f64; 4120],
+    line: &[f64; LONGEST_PADDED],
     j: usize,
     lanes: usize,
     step: usize,
@@ -75,10 +77,10 @@ fn put_one(
 // Lanes j to j + 3, those that there are.
 fn filter_four(
     data: &mut [f64],
-    a: &mut [f64; 4120],
-    b: &mut [f64; 4120],
-    c: &mut [f64; 4120],
-    d: &mut [f64; 4120],
+    a: &mut [f64; LONGEST_PADDED],
+    b: &mut [f64; LONGEST_PADDED],
+    c: &mut [f64; LONGEST_PADDED],
+    d: &mut [f64; LONGEST_PADDED],
     j: usize,
     lanes: usize,
     step: usize,
@@ -107,10 +109,10 @@ fn filter_four(
 // All lanes of a buffer that they fill: lane j starts at j * step, and its numbers stand `stride` apart.
 pub fn filter_lanes(
     data: &mut [f64],
-    a: &mut [f64; 4120],
-    b: &mut [f64; 4120],
-    c: &mut [f64; 4120],
-    d: &mut [f64; 4120],
+    a: &mut [f64; LONGEST_PADDED],
+    b: &mut [f64; LONGEST_PADDED],
+    c: &mut [f64; LONGEST_PADDED],
+    d: &mut [f64; LONGEST_PADDED],
     lanes: usize,
     step: usize,
     stride: usize,

@@ -8,7 +8,8 @@ use native.Mathlib.Omega.{arith}
 use native.Mathlib.Nat.{add-mul, eq-or-lt-of-le, not-suc-le-zero, zero-mul, mul-le-mul-right}
 use borrow.Rule.Slice.PartMut.{same-len-mid, postOf}
 use lib.ListN.{length, getD, take, drop, set, length-take, length-drop, List·getD-append}
-use Rattle.lists.specs.Tabulate.{tabulate, Filled}
+use Rattle.lists.specs.Tabulate.{tabulate}
+use Rattle.lists.specs.Bookkeeping.{Filled}
 use Rattle.lists.proofs.Tabulated.{is-tabulate}
 use lib.Seq.{getD-take, getD-drop, getD-set-same, getD-set-other, getD-append-add, length-take-le}
 

@@ -6,7 +6,8 @@ use native.Mathlib.Nat.{zero-lt-suc, not-suc-le-zero, le-of-suc-le-suc}
 use native.Mathlib.Omega.{arith}
 use lib.ListN.{length, getD, take}
 use lib.Seq.{ext-getD, getD-take, length-take-le}
-use Rattle.lists.specs.Tabulate.{tabulate, Filled}
+use Rattle.lists.specs.Tabulate.{tabulate}
+use Rattle.lists.specs.Bookkeeping.{Filled}
 
 pub length-tabulate : {A : Type 0} (n : ℕ) (f : ℕ → A) → length (tabulate n f) ≡ n
 unfolding tabulate

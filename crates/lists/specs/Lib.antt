@@ -2,3 +2,5 @@
 pub mod Tabulate
 pub mod Every
 pub mod Some
+-- The code's own bookkeeping. No promise speaks of it.
+pub mod Bookkeeping

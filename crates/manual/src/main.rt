@@ -21,15 +21,17 @@ use recorded::calls::is_for;
 use recorded::calls::number_of_calls;
 use recorded::calls::say_calls;
 use recorded::calls::start;
+use recorded::lengths::OUTPUT_ROOM;
+use recorded::lengths::WORK_ROOM;
 use recorded::lengths::is_call;
 use resample::number_in;
 
 // A refusal counts as a number outside, and so do words that are no call.
 fn hold_call(words: &[u64], h: Held, at: usize) -> Held {
     if is_call(words, at) {
-        let mut output = [BLANK; 4096];
-        let mut coverage = [NO_CODE; 4096];
-        let mut work = [BLANK; 20480];
+        let mut output = [BLANK; OUTPUT_ROOM];
+        let mut coverage = [NO_CODE; OUTPUT_ROOM];
+        let mut work = [BLANK; WORK_ROOM];
         let answer = call(words, at, &mut output, &mut coverage, &mut work);
         if number_in(answer) == 0 {
             return hold_output(words, h, at, &output);

@@ -7,7 +7,8 @@ use lib.ListN.{getD}
 use lib.Ieee.{nan}
 use Rattle.exact.specs.Rounded.{_⊗_, num}
 use Rattle.poles.specs.declared.Poles.{Poles}
-use Rattle.poles.specs.Poles.{Pole, polesIn, Sound, gainFactor, gainOf}
+use Rattle.poles.specs.Poles.{Pole, gainFactor, gainOf}
+use Rattle.poles.specs.Bookkeeping.{polesIn, Sound}
 
 -- the pole at a place
 abbrev pub poleAt : Poles → ℕ → Pole

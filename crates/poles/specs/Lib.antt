@@ -2,3 +2,5 @@
 pub mod Poles
 pub mod Roots
 pub mod Power
+-- The code's own bookkeeping. No promise speaks of it.
+pub mod Bookkeeping

@@ -1,14 +1,10 @@
 -- "Poles are stored with the bits that the oracle's build computes. In source order they are near -0.171573; -0.267949; -0.361341, -0.013725; -0.430575, -0.043096. The mirror start's cut-off counts are 19; 25; 33, 7; 40, 10."
-use Prim.Native.Nat.{ℕ, _≤_}
-use mathlib.Core.Path.{_≡_}
-use mathlib.Core.Logic.{_⊎_}
+use Prim.Native.Nat.{ℕ}
 use mathlib.Core.Bool.{cond}
 use mathlib.Core.List.{List, [], _∷_}
 use lib.Dec.{eqb}
-use lib.ListN.{getD, take}
-use lib.Ieee.{Float, nan, binary64, ofBits}
+use lib.Ieee.{Float, binary64, ofBits}
 use Rattle.exact.specs.Rounded.{_⊖_, _⊗_, _⊘_, num}
-use Rattle.poles.specs.declared.Poles.{Poles}
 
 -- a pole, and how many numbers of a lane its mirror start reads where the lane is longer
 pub record Pole : Type 0 where
@@ -52,13 +48,3 @@ gainFrom gain (p ∷ ps) = gainFrom (gain ⊗ gainFactor (p .z)) ps
 unfoldable pub gainOf : List Pole → Float
 unfolding gainFrom
 gainOf ps = gainFrom (num 1) ps
-
--- the poles that the code's record holds: its first one or two places
-unfoldable pub polesIn : Poles → List Pole
-polesIn p = take (p .count) (record { z = getD (p .pole) 0 nan; cutoff = getD (p .cutoff) 0 0 } ∷ record { z = getD (p .pole) 1 nan; cutoff = getD (p .cutoff) 1 0 } ∷ [])
-
--- it holds one pole or two, and each has a cut-off
-pub record Sound (p : Poles) : Type 0 where
-  pub count : (p .count ≡ 1) ⊎ (p .count ≡ 2)
-  pub first : 1 ≤ getD (p .cutoff) 0 0
-  pub second : p .count ≡ 2 → 1 ≤ getD (p .cutoff) 1 0

@@ -1,7 +1,8 @@
 // The poles of each order, the gain of the filter, and powers of a pole.
 ghost use mathlib.Core.Path.{_≡_};
 ghost use Prim.Native.Nat.{_≤_};
-ghost use Rattle.poles.specs.Poles.{polesOf, polesIn, gainOf, gainFactor, Sound};
+ghost use Rattle.poles.specs.Poles.{polesOf, gainOf, gainFactor};
+ghost use Rattle.poles.specs.Bookkeeping.{polesIn, Sound};
 ghost use Rattle.poles.specs.Power.{power};
 
 // The one or two poles of an order, with their cut-off counts.

@@ -12,8 +12,9 @@ use Rattle.border.specs.declared.BorderMode.{BorderMode}
 use Rattle.poles.specs.Poles.{Pole, polesOf, gainOf}
 use Rattle.lane.specs.Lane.{reflects, filterLane}
 use Rattle.lanes.specs.Along.{filterAlong}
-use Rattle.prefilter.specs.Volume.{filterAxis, filterVolume, lengthOf, strideOf, Sized}
-use Rattle.lanes.specs.Lanes.{Grid}
+use Rattle.prefilter.specs.Volume.{filterAxis, filterVolume, lengthOf, strideOf}
+use Rattle.prefilter.specs.Bookkeeping.{Sized}
+use Rattle.lanes.specs.Bookkeeping.{Grid}
 
 side-by-side : (lanes n : ℕ) → 1 ≤ lanes → 2 ≤ n → n ≤ 4120 → Grid lanes n 1 lanes (lanes * n)
 side-by-side lanes n some least most = record { least = least; most = most; some = some; all = refl; lie = inl (refl, refl) }

@@ -10,7 +10,7 @@ use lib.Seq.{length-take-le, take-all, take-at, drop-at, take-add, drop-drop}
 use lib.Ieee.{Float}
 use Rattle.lists.proofs.Stretches.{next, part-length}
 use Rattle.lanes.specs.Along.{filterAlong}
-use Rattle.lanes.specs.Lanes.{Grid}
+use Rattle.lanes.specs.Bookkeeping.{Grid}
 use Rattle.lanes.proofs.Grids.{stride-some}
 use Rattle.lanes.proofs.Alongs.{length-along, along-part}
 

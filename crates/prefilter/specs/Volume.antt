@@ -1,7 +1,6 @@
 -- "Prefilter: axes 0, 1, 2 in turn." The axes of a volume, and the filter along them.
-use Prim.Native.Nat.{ℕ, _*_, _≤_, _<_}
+use Prim.Native.Nat.{ℕ, _*_}
 use mathlib.Core.List.{List}
-use mathlib.Core.Path.{_≡_}
 use mathlib.Core.Bool.{cond}
 use lib.Dec.{eqb}
 use lib.ListN.{getD}
@@ -28,9 +27,3 @@ filterVolume mode order d xs = filterAxis mode order d 2 (filterAxis mode order 
 
 abbrev pub countOf : List ℕ → ℕ
 countOf d = getD d 0 0 * (getD d 1 0 * getD d 2 0)
-
--- three axes from 2 to 4,120 long, and a buffer of as many places
-pub record Sized (d : List ℕ) (count : ℕ) : Type 0 where
-  pub least : (axis : ℕ) → axis < 3 → 2 ≤ lengthOf axis d
-  pub most : (axis : ℕ) → axis < 3 → lengthOf axis d ≤ 4120
-  pub all : count ≡ countOf d

@@ -3,12 +3,14 @@ ghost use mathlib.Core.Path.{_≡_};
 ghost use Prim.Native.Nat.{_*_, _≤_};
 ghost use lib.ListN.{length};
 ghost use Rattle.lane.specs.Lane.{reflects, filterLane};
-ghost use Rattle.poles.specs.Poles.{polesIn, Sound};
+ghost use Rattle.poles.specs.Bookkeeping.{polesIn, Sound};
 ghost use Rattle.lanes.specs.Along.{filterAlong};
-ghost use Rattle.prefilter.specs.Volume.{filterAxis, filterVolume, Sized};
-ghost use Rattle.lanes.specs.Lanes.{Grid};
+ghost use Rattle.prefilter.specs.Volume.{filterAxis, filterVolume};
+ghost use Rattle.prefilter.specs.Bookkeeping.{Sized};
+ghost use Rattle.lanes.specs.Bookkeeping.{Grid};
 use border::BorderMode;
 use lanes::filter_lanes;
+use limits::LONGEST_PADDED;
 use poles::Poles;
 use poles::filter_gain;
 use poles::get_filter_poles;
@@ -43,10 +45,10 @@ fn filter_blocks(
     requires { ⌜ Sound p ⌝ }
     ensures { λ _. ⌜ now («data» .exit) ≡ filterAlong (filterLane reflect (polesIn p) gain) n stride (now («data» .entry)) ⌝ }
 {
-    let mut a = [0.0; 4120];
-    let mut b = [0.0; 4120];
-    let mut c = [0.0; 4120];
-    let mut d = [0.0; 4120];
+    let mut a = [0.0; LONGEST_PADDED];
+    let mut b = [0.0; LONGEST_PADDED];
+    let mut c = [0.0; LONGEST_PADDED];
+    let mut d = [0.0; LONGEST_PADDED];
     let block = lanes * n;
     let mut i = 0;
     while i < blocks {

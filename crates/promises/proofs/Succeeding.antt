@@ -8,7 +8,8 @@ use Rattle.request.specs.declared.Request.{Request}
 use Rattle.refusal.specs.declared.Verdict.{Verdict}
 use Rattle.refusal.specs.declared.Verdict.the-variants.{Passed, Refused}
 use Rattle.refusal.specs.Refusals.{first, numberBy}
-use Rattle.resample.specs.Call.{Passes, success, callBy, numberIn, shiftCall, zoomCall}
+use Rattle.resample.specs.Call.{success, callBy, numberIn, shiftCall, zoomCall}
+use Rattle.resample.specs.Bookkeeping.{Passes}
 use Rattle.resample.proofs.Admitting.{shift-passes, zoom-passes}
 use Rattle.promises.specs.Entries.{Entry, shifting, zooming, call, checks, axesOf}
 use Rattle.promises.proofs.Given.{some-number, numbered}

@@ -20,14 +20,14 @@ use Rattle.lists.proofs.Tabulated.{getD-tabulate}
 use Rattle.border.specs.declared.BorderMode.{BorderMode}
 use Rattle.border.specs.Fold.{fold}
 use Rattle.border.proofs.Arms.{inside}
-use Rattle.axis.specs.declared.taps.Taps.{Taps}
+use Rattle.axis.specs.declared.point.Point.{Point}
 use Rattle.axis.specs.Weights.{base, leading, completed, sumFrom, buildSplines}
-use Rattle.axis.specs.Neighbours.{firstNeighbour, outside, neighbourMode, neighbour, neighbourIndex}
+use Rattle.axis.specs.Neighbours.{firstNeighbour, outside, splineMode, neighbour, neighbourIndex}
 use Rattle.axis.specs.Point.{neighbours, keptPoint}
 use Rattle.axis.proofs.Weights.{whole-linear}
 use Rattle.axis.proofs.Inside.{index-inside}
 use Rattle.axis.proofs.Points.{placeOf, kept-inside}
-use Rattle.voxels.specs.Lent.{lent}
+use Rattle.voxels.specs.Sum.{lent}
 use Rattle.voxels.specs.Voxel.{tapOf}
 use Rattle.exact.proofs.Halves.{floor-half}
 use Rattle.promises.proofs.OneVoxel.{Unit}
@@ -42,7 +42,7 @@ abbrev ones : List Float
 ones = num 1 ∷ replicate 5 (num 0)
 
 -- t reads voxel x of an axis L long, and nothing else that counts
-pub record Names (order L x : ℕ) (t : Taps) : Type 0 where
+pub record Names (order L x : ℕ) (t : Point) : Type 0 where
   pub first : getD (t .at) 0 0 ≡ x
   pub within : (k : ℕ) → k ≤ order → getD (t .at) k 0 < L
   pub weights : Unit (tapOf t)
@@ -84,8 +84,8 @@ module _ {to : Float} {x L : ℕ} (is : Is to (pos x)) (lies : x < L) (two : 2 �
     unfolding neighbourIndex neighbour
     index-is mode out = toUnsigned-is (go out) (omega arith)
       where
-        go : (out : Bool) → Is (cond out (fold (neighbourMode mode) (first ⊕ num 0) (num L)) (first ⊕ num 0)) (pos x)
-        go true = subst (λ (y : Float). Is y (pos x)) (inside (neighbourMode mode) (first ⊕ num 0) (num L) (not-below stays) before-end) stays
+        go : (out : Bool) → Is (cond out (fold (splineMode mode) (first ⊕ num 0) (num L)) (first ⊕ num 0)) (pos x)
+        go true = subst (λ (y : Float). Is y (pos x)) (inside (splineMode mode) (first ⊕ num 0) (num L) (not-below stays) before-end) stays
         go false = stays
 
     none-outside : outside 0 L first ≡ false
@@ -99,7 +99,7 @@ module _ {to : Float} {x L : ℕ} (is : Is to (pos x)) (lies : x < L) (two : 2 �
       let first = firstNeighbour order to in
       let counts : (eqb order 0 && outside order L first) ≡ false = low-order (λ k. (eqb k 0 && outside k L (firstNeighbour k to)) ≡ false) not-beside refl order l in
       let at = nth mode order L first in
-      subst (λ (t : Taps). Names order L x t) (kept-inside order mode L to refl counts refl refl) (record {
+      subst (λ (t : Point). Names order L x t) (kept-inside order mode L to refl counts refl refl) (record {
         first = at 0 (omega arith) (omega arith) ∙ index-is (first-is order l) mode (outside order L first);
         within = λ k m. subst (λ (j : ℕ). j < L) (sym (at k (omega arith) m)) (index-inside order mode L to k (omega arith) two top (is-within 30 is (omega arith)) (unsigned-asks is (omega arith) .0) m);
         weights = unit (neighbours mode order L first) (weights-are order l);

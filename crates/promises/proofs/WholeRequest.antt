@@ -15,13 +15,14 @@ use Rattle.lists.proofs.Somes.{some-none}
 use Rattle.border.specs.declared.BorderMode.{BorderMode}
 use Rattle.border.specs.declared.BorderMode.the-variants.{Constant}
 use Rattle.axis.specs.declared.coordinate.Axis.{Axis}
-use Rattle.axis.specs.declared.taps.Taps.{Taps}
+use Rattle.axis.specs.declared.point.Point.{Point}
 use Rattle.axis.specs.Coordinate.{shiftAxis, isNearest}
 use Rattle.axis.specs.Point.{pointAt, besideAt}
 use Rattle.coverage.specs.Coverage.{keptAt}
 use Rattle.prefilter.specs.Volume.{filterVolume}
 use Rattle.request.specs.declared.Request.{Request}
-use Rattle.request.specs.Sizes.{filters, padding, sourceDims, Lengths}
+use Rattle.request.specs.Sizes.{filters, padding, sourceDims}
+use Rattle.request.specs.Bookkeeping.{Lengths}
 use Rattle.request.specs.Conditions.{wild, wildFill, someWild, someBeside, besideAny}
 use Rattle.refusal.specs.Refusals.{shiftChecks}
 use Rattle.request.proofs.Requests.{none-at, or-false, not-both, good-lengths}
@@ -49,7 +50,7 @@ dim r c = getD (r .dims) c 0
 abbrev pub axis : Request → ℕ → Axis
 axis r c = shiftAxis (dim r c) (getD (r .factors) c nan) (padding r)
 
-abbrev pub point : Request → ℕ → ℕ → Taps
+abbrev pub point : Request → ℕ → ℕ → Point
 point r c i = pointAt (r .order) (r .mode) (axis r c) i
 
 -- ---- an input that refusal 8 lets pass

@@ -22,7 +22,7 @@ use Rattle.border.specs.declared.BorderMode.the-variants.{Constant}
 use Rattle.border.specs.Fold.{fold, foldConstant}
 use Rattle.border.proofs.Arms.{inside}
 use Rattle.axis.specs.declared.coordinate.Axis.{Axis}
-use Rattle.axis.specs.declared.taps.Taps.{Taps}
+use Rattle.axis.specs.declared.point.Point.{Point}
 use Rattle.axis.specs.Coordinate.{shiftAxis, coordinate, settled, kept}
 use Rattle.axis.specs.Neighbours.{outside, firstNeighbour}
 use Rattle.axis.specs.Point.{pointAt, besideAt}
@@ -103,7 +103,7 @@ module _ (fill : Float) {n : ℕ} {shift : Float} {s : ℤ} (g : Shifts n shift 
     unfolding keptAt
     point-names order o =
         subst (λ (L : ℕ). Names order L x (pointAt order (Constant fill) a i)) unpadded
-        (subst (λ (t : Taps). Names order (a .len) x t) (point-kept order (Constant fill) a i refl stays) (names settles (omega arith) (omega arith) (omega arith) order (Constant fill) o))
+        (subst (λ (t : Point). Names order (a .len) x t) (point-kept order (Constant fill) a i refl stays) (names settles (omega arith) (omega arith) (omega arith) order (Constant fill) o))
 
     inside-not-beside : besideAt (Constant fill) a i ≡ false
     unfolding besideAt keptAt

@@ -8,7 +8,7 @@ use lib.ListN.{length, getD}
 use lib.Ieee.{Float, nan}
 use lib.Ieee.Scale.{finite}
 use Rattle.exact.proofs.Weights.{same-refl}
-use Rattle.axis.specs.declared.taps.Taps.{Taps}
+use Rattle.axis.specs.declared.point.Point.{Point}
 use Rattle.voxels.specs.Voxel.{tapOf, computed}
 use Rattle.promises.specs.Moves.{F64s}
 use Rattle.promises.proofs.OneVoxel.{Holds, one-voxel}
@@ -18,7 +18,7 @@ use Rattle.promises.proofs.WholePoint.{Names, low-order}
 abbrev pub Finite : List Float → Type 0
 Finite l = (m : ℕ) → m < length l → T (finite (getD l m nan))
 
-module _ (xs : List Float) (f64 : F64s xs) (tame : Finite xs) (nx ny nz x y z : ℕ) (all : length xs ≡ nx * (ny * nz)) (tx ty tz : Taps) where
+module _ (xs : List Float) (f64 : F64s xs) (tame : Finite xs) (nx ny nz x y z : ℕ) (all : length xs ≡ nx * (ny * nz)) (tx ty tz : Point) where
   abbrev near : ℕ → ℕ → ℕ → ℕ
   near i j k = getD (tx .at) i 0 * (ny * nz) + (getD (ty .at) j 0 * nz + getD (tz .at) k 0)
 

@@ -14,7 +14,8 @@ use Rattle.axis.specs.Point.{besideAt}
 use Rattle.coverage.specs.declared.counts.Counts.{Counts}
 use Rattle.coverage.specs.Coverage.{codeAt, keptAt}
 use Rattle.request.specs.declared.Request.{Request}
-use Rattle.request.specs.Sizes.{padding, zoomDims, zoomAxes, Lengths}
+use Rattle.request.specs.Sizes.{padding, zoomDims, zoomAxes}
+use Rattle.request.specs.Bookkeeping.{Lengths}
 use Rattle.request.specs.Conditions.{someBeside, besideAny}
 use Rattle.request.proofs.Requests.{pad-most, good-lengths}
 use Rattle.resample.specs.Call.{numberIn, countsIn, zoomCall}

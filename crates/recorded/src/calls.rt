@@ -1,7 +1,9 @@
 // The calls, in the words that README.md explains: where they stand, and how one is made.
 ghost use Prim.Native.Nat.{_≤_};
 ghost use lib.ListN.{length};
+ghost use Rattle.recorded.specs.Bookkeeping.{outputRoom, workRoom};
 use crate::lengths::CALL;
+use crate::lengths::INPUT_ROOM;
 use crate::lengths::at_most;
 use crate::lengths::coverage_length;
 use crate::lengths::input_length;
@@ -141,13 +143,13 @@ pub fn call(
     coverage: &mut [u8],
     work: &mut [f64],
 ) -> Answer
-    requires { ⌜ (4096 ≤ length (now output)) × ((4096 ≤ length (now coverage)) × (20480 ≤ length (now work))) ⌝ }
+    requires { ⌜ (outputRoom ≤ length (now output)) × ((outputRoom ≤ length (now coverage)) × (workRoom ≤ length (now work))) ⌝ }
 {
     let n = input_length(words, at);
     let values = output_length(words, at);
     let codes = coverage_length(words, at);
     let places = work_length(words, at);
-    let mut input = [0.0; 1024];
+    let mut input = [0.0; INPUT_ROOM];
     put_lane(&mut input, 0, 1, words, whole_at(words, at, 12), n);
     ask(
         words,

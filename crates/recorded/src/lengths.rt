@@ -1,11 +1,19 @@
 // How long the buffers of a call are, and how much of them it writes. A length is cut to what the
 // programs' buffers hold; `is_call` says whether the words are a call as they stand.
 ghost use Prim.Native.Nat.{_≤_};
+ghost use Rattle.recorded.specs.Bookkeeping.{inputRoom, outputRoom, workRoom};
 use answer_file::words::whole_at;
 use answer_file::words::word_at;
 
 // The words of a call.
 pub const CALL: usize = 25;
+
+// The places of the programs' buffers: of the input, of output and coverage, of work.
+pub const INPUT_ROOM: usize = 1024;
+
+pub const OUTPUT_ROOM: usize = 4096;
+
+pub const WORK_ROOM: usize = 20480;
 
 pub fn at_most(n: usize, most: usize) -> usize
     ensures { λ r. ⌜ r ≤ most ⌝ }
@@ -22,27 +30,27 @@ fn sampling_at(words: &[u64], at: usize, k: usize) -> usize {
 }
 
 pub fn input_length(words: &[u64], at: usize) -> usize
-    ensures { λ r. ⌜ r ≤ 1024 ⌝ }
+    ensures { λ r. ⌜ r ≤ inputRoom ⌝ }
 {
-    at_most(whole_at(words, at, 13), 1024)
+    at_most(whole_at(words, at, 13), INPUT_ROOM)
 }
 
 pub fn output_length(words: &[u64], at: usize) -> usize
-    ensures { λ r. ⌜ r ≤ 4096 ⌝ }
+    ensures { λ r. ⌜ r ≤ outputRoom ⌝ }
 {
-    at_most(whole_at(words, at, 14), 4096)
+    at_most(whole_at(words, at, 14), OUTPUT_ROOM)
 }
 
 pub fn coverage_length(words: &[u64], at: usize) -> usize
-    ensures { λ r. ⌜ r ≤ 4096 ⌝ }
+    ensures { λ r. ⌜ r ≤ outputRoom ⌝ }
 {
-    at_most(sampling_at(words, at, 15), 4096)
+    at_most(sampling_at(words, at, 15), OUTPUT_ROOM)
 }
 
 pub fn work_length(words: &[u64], at: usize) -> usize
-    ensures { λ r. ⌜ r ≤ 20480 ⌝ }
+    ensures { λ r. ⌜ r ≤ workRoom ⌝ }
 {
-    at_most(sampling_at(words, at, 16), 20480)
+    at_most(sampling_at(words, at, 16), WORK_ROOM)
 }
 
 // How many of the places lent for values or for codes are written: none by a refusal.

@@ -2,12 +2,13 @@
 ghost use mathlib.Core.Path.{_≡_};
 ghost use mathlib.Core.Bool.{_||_};
 ghost use lib.Dec.{ltb};
-ghost use Rattle.request.specs.Sizes.{Lengths};
+ghost use Rattle.request.specs.Bookkeeping.{Lengths};
 ghost use Rattle.request.specs.Conditions.{tooLarge, wrong, wildFill, someWild, besideAny};
 ghost use Rattle.refusal.specs.Refusals.{first, resampleChecks, shiftChecks, zoomChecks, filterChecks, splineFilterChecks, splineFilter1dChecks};
 use crate::Refusal;
 use crate::Verdict;
 use border::BorderMode;
+use limits::MOST_PLACES;
 use request::Axes;
 use request::Request;
 use request::conditions::bad_lengths;
@@ -25,7 +26,7 @@ use request::sizes::zoom_dims;
 fn too_large(n: usize) -> bool
     ensures { λ r. ⌜ r ≡ tooLarge n ⌝ }
 {
-    n > 134217728
+    n > MOST_PLACES
 }
 
 fn some_too_large(input: usize, output: usize, work: usize) -> bool

@@ -1,5 +1,6 @@
 // What a call answered and left in the buffers, against the words of the call.
 ghost use Prim.Native.Nat.{_≤_};
+ghost use Rattle.recorded.specs.Bookkeeping.{workRoom};
 use answer_file::replay::Replay;
 use answer_file::replay::counted;
 use answer_file::replay::moved_to;
@@ -11,6 +12,7 @@ use answer_file::words::wide;
 use answer_file::words::word_at;
 use recorded::calls::BLANK;
 use recorded::calls::NO_CODE;
+use recorded::lengths::OUTPUT_ROOM;
 use recorded::lengths::coefficients;
 use recorded::lengths::coverage_length;
 use recorded::lengths::output_length;
@@ -21,7 +23,7 @@ use resample::counts_in;
 use resample::number_in;
 
 // The number of the answer, and of a shift or a zoom its counts.
-pub fn expect_told(words: &[u64], r: Replay, at: usize, answer: Answer) -> Replay {
+pub fn expect_answer(words: &[u64], r: Replay, at: usize, answer: Answer) -> Replay {
     let number = number_in(answer) as u64;
     let numbered = counted(r, number == word_at(words, at, 17));
     if whole_at(words, at, 0) < 2 {
@@ -43,7 +45,7 @@ fn expect_buffer(
     filled: usize,
 ) -> Replay
     requires { ⌜ filled ≤ lent ⌝ }
-    requires { ⌜ lent ≤ 20480 ⌝ }
+    requires { ⌜ lent ≤ workRoom ⌝ }
 {
     let from = moved_to(r, in_pool(words, start));
     let taken = expect_lane(words, from, buffer, 0, 1, filled);
@@ -70,7 +72,12 @@ fn code_at(words: &[u64], start: usize, filled: usize, k: usize) -> u64 {
     NO_CODE as u64
 }
 
-pub fn expect_coverage(words: &[u64], r: Replay, at: usize, coverage: &[u8; 4096]) -> Replay {
+pub fn expect_coverage(
+    words: &[u64],
+    r: Replay,
+    at: usize,
+    coverage: &[u8; OUTPUT_ROOM],
+) -> Replay {
     let lent = coverage_length(words, at);
     let start = whole_at(words, at, 22);
     let filled = written(words, at, lent);

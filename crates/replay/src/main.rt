@@ -11,9 +11,9 @@ use answer_file::print::say_whole;
 use answer_file::replay::Replay;
 use answer_file::replay::moved_to;
 use answer_file::replay::refused;
+use compare::expect_answer;
 use compare::expect_coverage;
 use compare::expect_output;
-use compare::expect_told;
 use compare::expect_work;
 use recorded::calls::BLANK;
 use recorded::calls::NO_CODE;
@@ -23,6 +23,8 @@ use recorded::calls::is_for;
 use recorded::calls::number_of_calls;
 use recorded::calls::say_calls;
 use recorded::calls::start;
+use recorded::lengths::OUTPUT_ROOM;
+use recorded::lengths::WORK_ROOM;
 use recorded::lengths::is_call;
 use resample::Answer;
 use resample::number_in;
@@ -38,13 +40,13 @@ fn tally(ends: &mut [u64; 10], answer: Answer) {
 fn replay_call(words: &[u64], r: Replay, ends: &mut [u64; 10]) -> Replay {
     let at = r.at;
     if is_call(words, at) {
-        let mut output = [BLANK; 4096];
-        let mut coverage = [NO_CODE; 4096];
-        let mut work = [BLANK; 20480];
+        let mut output = [BLANK; OUTPUT_ROOM];
+        let mut coverage = [NO_CODE; OUTPUT_ROOM];
+        let mut work = [BLANK; WORK_ROOM];
         let answer = call(words, at, &mut output, &mut coverage, &mut work);
         tally(ends, answer);
-        let told = expect_told(words, r, at, answer);
-        let valued = expect_output(words, told, at, &output);
+        let answered = expect_answer(words, r, at, answer);
+        let valued = expect_output(words, answered, at, &output);
         let coded = expect_coverage(words, valued, at, &coverage);
         return expect_work(words, coded, at, &work);
     }

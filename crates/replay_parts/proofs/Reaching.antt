@@ -7,7 +7,7 @@ use Rattle.exact.specs.Within.{Within}
 use Rattle.axis.specs.declared.coordinate.Axis.{Axis}
 use Rattle.axis.specs.Coordinate.{shiftAxis, zoomAxis}
 use Rattle.axis.proofs.Reaches.{shift-reaches, zoom-reaches}
-use Rattle.replay_parts.specs.Reach.{Reachable}
+use Rattle.replay_parts.specs.Bookkeeping.{Reachable}
 
 module _ {a : Axis} (length pad : ℕ) (h : (2 ≤ length) × ((length ≤ 4096) × (pad ≤ 12))) where
   pub shift-reachable : (shift : Float) → Within 20 shift → a ≡ shiftAxis length shift pad → Reachable a

@@ -9,8 +9,9 @@ use lib.Seq.{length-take-le}
 use lib.Ieee.{Float}
 use mir.Syntax.{w64}
 use mir.Val.{Fits}
-use Rattle.prefilter.specs.Volume.{lengthOf, Sized}
-use Rattle.replay_parts.specs.Counted.{Counted}
+use Rattle.prefilter.specs.Volume.{lengthOf}
+use Rattle.prefilter.specs.Bookkeeping.{Sized}
+use Rattle.replay_parts.specs.Bookkeeping.{Counted}
 
 pub plane-fits : (b c : ℕ) → b ≤ 280 → c ≤ 280 → Fits w64 (b * c)
 plane-fits b c p q =

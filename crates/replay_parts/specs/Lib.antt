@@ -1,3 +1,2 @@
--- What the replay asks of an axis and of a volume.
-pub mod Reach
-pub mod Counted
+-- The code's own bookkeeping. No promise speaks of it.
+pub mod Bookkeeping

@@ -1,6 +1,7 @@
 // The answers of one axis.
 ghost use Prim.Native.Nat.{_≤_};
-ghost use Rattle.replay_parts.specs.Reach.{Reachable};
+ghost use Rattle.limits.specs.Limits.{longest};
+ghost use Rattle.replay_parts.specs.Bookkeeping.{Reachable};
 use crate::modes::mode_of;
 use answer_file::replay::Replay;
 use answer_file::replay::expect_float;
@@ -15,11 +16,12 @@ use axis::coordinate::float_of;
 use axis::coordinate::output_length;
 use axis::coordinate::shift_axis;
 use axis::coordinate::zoom_axis;
+use axis::point::Point;
+use axis::point::point_at;
 use axis::splines::build_splines;
-use axis::taps::Taps;
-use axis::taps::taps_at;
 use border::BorderMode;
 use border::map_coordinates;
+use limits::LONGEST;
 
 // A number, its floor, and the nearest whole number.
 pub fn rounding_case(words: &[u64], r: Replay) -> Replay {
@@ -34,7 +36,7 @@ pub fn length_case(words: &[u64], r: Replay) -> Replay {
     let at = r.at;
     let length = whole_at(words, at, 0);
     let factor = float_at(words, at, 1);
-    if length <= 4096 {
+    if length <= LONGEST {
         if factor > 0.0 {
             if factor <= 4096.0 {
                 let output = output_length(length, factor);
@@ -98,12 +100,12 @@ fn expect_neighbours(words: &[u64], r: Replay, at: &[usize; 6], count: usize) ->
     now
 }
 
-fn mark_of(t: Taps) -> u64 {
+fn mark_of(t: Point) -> u64 {
     t.mark as u64
 }
 
 // A mark; after mark 0 weights and neighbours, `count` of each.
-fn expect_record(words: &[u64], r: Replay, t: Taps, count: usize) -> Replay
+fn expect_record(words: &[u64], r: Replay, t: Point, count: usize) -> Replay
     requires { ⌜ count ≤ 6 ⌝ }
 {
     let at = r.at;
@@ -128,12 +130,12 @@ fn expect_records(
     end: usize,
 ) -> Replay
     requires { ⌜ Reachable a ⌝ }
-    requires { ⌜ (order ≤ 5) × (end ≤ 4096) ⌝ }
+    requires { ⌜ (order ≤ 5) × (end ≤ longest) ⌝ }
 {
     let mut now = r;
     let mut i = first;
     while i < end {
-        now = expect_record(words, now, taps_at(a, i, order, mode), order + 1);
+        now = expect_record(words, now, point_at(a, i, order, mode), order + 1);
         i += 1;
     }
     now
@@ -149,8 +151,8 @@ fn records_of(words: &[u64], r: Replay, a: Axis) -> Replay
     let first = whole_at(words, at, 6);
     let count = whole_at(words, at, 7);
     if order <= 5 {
-        if first <= 4096 {
-            if count <= 4096 - first {
+        if first <= LONGEST {
+            if count <= LONGEST - first {
                 return expect_records(
                     words,
                     skip(words, r, 8),
@@ -167,7 +169,7 @@ fn records_of(words: &[u64], r: Replay, a: Axis) -> Replay
 }
 
 fn shift_case(words: &[u64], r: Replay, length: usize, pad: usize) -> Replay
-    requires { ⌜ (2 ≤ length) × ((length ≤ 4096) × (pad ≤ 12)) ⌝ }
+    requires { ⌜ (2 ≤ length) × ((length ≤ longest) × (pad ≤ 12)) ⌝ }
 {
     let at = r.at;
     let shift = float_at(words, at, 2);
@@ -180,12 +182,12 @@ fn shift_case(words: &[u64], r: Replay, length: usize, pad: usize) -> Replay
 }
 
 fn zoom_case(words: &[u64], r: Replay, length: usize, pad: usize) -> Replay
-    requires { ⌜ (2 ≤ length) × ((length ≤ 4096) × (pad ≤ 12)) ⌝ }
+    requires { ⌜ (2 ≤ length) × ((length ≤ longest) × (pad ≤ 12)) ⌝ }
 {
     let at = r.at;
     let output = whole_at(words, at, 2);
     if output >= 2 {
-        if output <= 4096 {
+        if output <= LONGEST {
             return records_of(words, r, zoom_axis(length, output, pad));
         }
     }
@@ -200,7 +202,7 @@ pub fn axis_case(words: &[u64], r: Replay) -> Replay {
     let length = whole_at(words, at, 1);
     let pad = whole_at(words, at, 3);
     if length >= 2 {
-        if length <= 4096 {
+        if length <= LONGEST {
             if pad <= 12 {
                 if kind == 0 {
                     return shift_case(words, r, length, pad);

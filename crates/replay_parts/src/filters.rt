@@ -2,7 +2,7 @@
 ghost use mathlib.Core.Path.{_≡_};
 ghost use mathlib.Core.Bool.{true};
 ghost use Prim.Native.Nat.{_≤_, _<_};
-ghost use Rattle.replay_parts.specs.Counted.{Counted};
+ghost use Rattle.replay_parts.specs.Bookkeeping.{Counted};
 use crate::modes::has_mode;
 use crate::modes::mode_of;
 use answer_file::replay::Replay;

@@ -14,7 +14,8 @@ use Rattle.lists.specs.Some.{someBelow}
 use Rattle.lists.proofs.Somes.{some-at}
 use Rattle.axis.specs.Coordinate.{isNearest}
 use Rattle.request.specs.declared.Request.{Request}
-use Rattle.request.specs.Sizes.{padding, sourceDims, Small, Lengths, Zoomed}
+use Rattle.request.specs.Sizes.{padding, sourceDims}
+use Rattle.request.specs.Bookkeeping.{Small, Lengths, Zoomed}
 use Rattle.request.specs.Conditions.{badLength, badLengths, badZoom, badFactors}
 
 -- ---- pads

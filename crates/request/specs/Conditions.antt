@@ -6,6 +6,7 @@ use lib.Dec.{ltb, eqb}
 use lib.ListN.{length, getD}
 use lib.Ieee.{Float, nan, neg, lt, le}
 use Rattle.exact.specs.Rounded.{num}
+use Rattle.limits.specs.Limits.{longest, mostPlaces}
 use Rattle.lists.specs.Some.{someBelow}
 use Rattle.border.specs.declared.BorderMode.{BorderMode}
 use Rattle.border.specs.declared.BorderMode.the-variants.{Constant, Mirror, Nearest, Reflect, Wrap}
@@ -27,7 +28,7 @@ badAxisNumber axis = ltb 2 axis
 
 -- "an input axis is shorter than 2 or longer than 4,096"
 abbrev pub badLength : ℕ → Bool
-badLength n = ltb n 2 || ltb 4096 n
+badLength n = ltb n 2 || ltb longest n
 
 unfoldable pub badLengths : List ℕ → Bool
 unfolding someBelow
@@ -47,7 +48,7 @@ badFactors bad f = someBelow (λ i. bad (getD f i nan)) 3
 
 -- "input count, output count or needed work count exceeds 2^27"
 abbrev pub tooLarge : ℕ → Bool
-tooLarge n = ltb (2 ^ 27) n
+tooLarge n = ltb mostPlaces n
 
 -- "a lent buffer has the wrong length"
 abbrev pub wrong : ℕ → ℕ → Bool

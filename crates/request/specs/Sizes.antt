@@ -1,5 +1,5 @@
 -- "Volumes are flat f64 buffers, last index fastest. Input, output and coverage have exactly their voxel count. Work has at least its needed count: 0 if prefilter is off or the order is below 2, else the input count, or in Nearest the count with 24 added to each axis."
-use Prim.Native.Nat.{ℕ, _+_, _*_, _≤_, _<_}
+use Prim.Native.Nat.{ℕ, _+_, _*_}
 use mathlib.Core.Bool.{Bool, _&&_, cond}
 use mathlib.Core.List.{List, [], _∷_}
 use lib.Dec.{ltb}
@@ -7,7 +7,7 @@ use lib.ListN.{getD}
 use lib.Ieee.{nan}
 use Rattle.axis.specs.declared.coordinate.Axis.{Axis}
 use Rattle.axis.specs.Coordinate.{padOf, shiftAxis, zoomAxis}
-use Rattle.axis.specs.Length.{outputLength, Zooms}
+use Rattle.axis.specs.Length.{outputLength}
 use Rattle.prefilter.specs.Volume.{countOf}
 use Rattle.request.specs.declared.Axes.{Axes}
 use Rattle.request.specs.declared.Request.{Request}
@@ -40,15 +40,3 @@ abbrev pub zoomAxes : Request → Axes
 zoomAxes r =
     let axis : ℕ → Axis = λ i. zoomAxis (getD (r .dims) i 0) (getD (zoomDims r) i 0) (padding r) in
     record { x = axis 0; y = axis 1; z = axis 2 }
-
--- lengths that their products can be taken of
-abbrev pub Small : List ℕ → Type 0
-Small d = (getD d 0 0 ≤ 4120) × ((getD d 1 0 ≤ 4120) × (getD d 2 0 ≤ 4120))
-
--- lengths that refusal 3 or 5 lets pass
-abbrev pub Lengths : List ℕ → Type 0
-Lengths d = (i : ℕ) → i < 3 → (2 ≤ getD d i 0) × (getD d i 0 ≤ 4096)
-
--- factors that refusal 4 lets pass
-abbrev pub Zoomed : Request → Type 0
-Zoomed r = (i : ℕ) → i < 3 → Zooms (getD (r .dims) i 0) (getD (r .factors) i nan)

@@ -2,8 +2,9 @@
 ghost use mathlib.Core.Path.{_≡_};
 ghost use Rattle.request.specs.Conditions.{badLength, badLengths, badShift, badZoom, badFactors, wild, wildFill, someWild, someBeside};
 use axis::coordinate::Axis;
-use axis::taps::some_beside;
+use axis::point::some_beside;
 use border::BorderMode;
+use limits::LONGEST;
 
 pub fn bad_length(n: usize) -> bool
     ensures { λ r. ⌜ r ≡ badLength n ⌝ }
@@ -11,7 +12,7 @@ pub fn bad_length(n: usize) -> bool
     if n < 2 {
         return true;
     }
-    n > 4096
+    n > LONGEST
 }
 
 pub fn bad_lengths(d: [usize; 3]) -> bool

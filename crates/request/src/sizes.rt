@@ -1,8 +1,8 @@
 // The lengths, counts and axes of a request.
 ghost use mathlib.Core.Path.{_≡_};
-ghost use Prim.Native.Nat.{_≤_};
 ghost use Rattle.prefilter.specs.Volume.{countOf};
-ghost use Rattle.request.specs.Sizes.{filters, sourceDims, needed, zoomDims, shiftAxes, zoomAxes, Small, Lengths, Zoomed};
+ghost use Rattle.request.specs.Sizes.{filters, sourceDims, needed, zoomDims, shiftAxes, zoomAxes};
+ghost use Rattle.request.specs.Bookkeeping.{Small, Lengths, Zoomed};
 use crate::Axes;
 use crate::Request;
 use axis::coordinate::output_length;

@@ -21,11 +21,13 @@ use Rattle.resample.specs.declared.Answer.the-variants.{Done}
 use Rattle.refusal.specs.declared.Refusal.{Refusal}
 use Rattle.refusal.specs.declared.Verdict.{Verdict}
 use Rattle.refusal.specs.declared.Verdict.the-variants.{Passed, Refused}
-use Rattle.request.specs.Sizes.{needed, padding, zoomDims, shiftAxes, zoomAxes, Lengths, Zoomed}
+use Rattle.request.specs.Sizes.{needed, padding, zoomDims, shiftAxes, zoomAxes}
+use Rattle.request.specs.Bookkeeping.{Lengths, Zoomed}
 use Rattle.request.specs.Conditions.{wrong, badShift, badFactors}
 use Rattle.refusal.specs.Refusals.{first, shiftChecks, zoomChecks}
-use Rattle.voxels.specs.Table.{Reaches}
-use Rattle.resample.specs.Call.{Passes, callOf, callBy, success}
+use Rattle.voxels.specs.Bookkeeping.{Reaches}
+use Rattle.resample.specs.Call.{callOf, callBy, success}
+use Rattle.resample.specs.Bookkeeping.{Passes}
 use Rattle.refusal.proofs.Firsts.{all-clear}
 use Rattle.request.proofs.Requests.{none-at, or-false, not-both, pad-most, good-lengths, good-zooms}
 

@@ -7,12 +7,13 @@ use mathlib.Core.List.{List}
 use lib.ListN.{length}
 use lib.Ieee.{Float}
 use borrow.Author.Tests.{ltb-false, eqb-true, not-false}
-use Rattle.prefilter.specs.Volume.{countOf, Sized}
+use Rattle.prefilter.specs.Volume.{countOf}
+use Rattle.prefilter.specs.Bookkeeping.{Sized}
 use Rattle.request.specs.declared.Request.{Request}
 use Rattle.refusal.specs.declared.Refusal.{Refusal}
 use Rattle.refusal.specs.declared.Verdict.{Verdict}
 use Rattle.refusal.specs.declared.Verdict.the-variants.{Passed, Refused}
-use Rattle.request.specs.Sizes.{Lengths}
+use Rattle.request.specs.Bookkeeping.{Lengths}
 use Rattle.refusal.specs.Refusals.{first, filterChecks, splineFilterChecks, splineFilter1dChecks}
 use Rattle.resample.specs.Call.{filterCallOf, filterCallBy}
 use Rattle.refusal.proofs.Firsts.{Clear, all-clear}

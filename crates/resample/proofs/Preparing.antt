@@ -10,9 +10,11 @@ use lib.Ieee.{Float}
 use borrow.Author.Tests.{eq-eqb, ne-eqb, ltb-true}
 use Rattle.axis.specs.Coordinate.{isNearest}
 use Rattle.edge.specs.Edge.{padded, paddedDims}
-use Rattle.prefilter.specs.Volume.{filterVolume, lengthOf, countOf, Sized}
+use Rattle.prefilter.specs.Volume.{filterVolume, lengthOf, countOf}
+use Rattle.prefilter.specs.Bookkeeping.{Sized}
 use Rattle.request.specs.declared.Request.{Request}
-use Rattle.request.specs.Sizes.{filters, padding, sourceDims, needed, Lengths}
+use Rattle.request.specs.Sizes.{filters, padding, sourceDims, needed}
+use Rattle.request.specs.Bookkeeping.{Lengths}
 use Rattle.resample.specs.Call.{sourceOf, coefficients, workAfter}
 use Rattle.request.proofs.Requests.{pad-most}
 

@@ -1,13 +1,12 @@
 -- "A refusal returns its number and counts 0, 0, 0; output, coverage and work hold what they held. Success returns the three counts and writes output and coverage fully. Work then begins with the filtered coefficients (needed count); the rest is untouched."
-use Prim.Native.Nat.{ℕ, _+_, _*_, _≤_}
-use mathlib.Core.Path.{_≡_}
+use Prim.Native.Nat.{ℕ}
 use mathlib.Core.Bool.{cond}
 use mathlib.Core.List.{List, _++_}
 use lib.Dec.{eqb, ltb}
 use lib.ListN.{length, drop}
 use lib.Ieee.{Float}
 use Rattle.edge.specs.Edge.{padded}
-use Rattle.prefilter.specs.Volume.{filterAxis, filterVolume, countOf}
+use Rattle.prefilter.specs.Volume.{filterAxis, filterVolume}
 use Rattle.coverage.specs.declared.counts.Counts.{Counts}
 use Rattle.resample.specs.declared.Answer.{Answer}
 use Rattle.resample.specs.declared.Answer.the-variants as answer
@@ -15,9 +14,8 @@ use Rattle.refusal.specs.declared.Verdict.{Verdict}
 use Rattle.refusal.specs.declared.Verdict.the-variants as verdict
 use Rattle.request.specs.declared.Axes.{Axes}
 use Rattle.request.specs.declared.Request.{Request}
-use Rattle.request.specs.Sizes.{filters, padding, sourceDims, needed, shiftAxes, zoomAxes, Lengths}
+use Rattle.request.specs.Sizes.{filters, padding, sourceDims, needed, shiftAxes, zoomAxes}
 use Rattle.refusal.specs.Refusals.{numberOf, first, shiftChecks, zoomChecks, splineFilterChecks, splineFilter1dChecks}
-use Rattle.voxels.specs.Table.{Reaches}
 use Rattle.coverage.specs.Coverage.{codes, countsOf, none}
 use Rattle.voxels.specs.Voxel.{values}
 
@@ -93,23 +91,3 @@ splineFilterCall r input output = filterCallBy (first (splineFilterChecks r inpu
 unfoldable pub splineFilter1dCall : Request → ℕ → List Float → List Float → FilterCall
 unfolding filterAxis
 splineFilter1dCall r axis input output = filterCallBy (first (splineFilter1dChecks r axis input (length output))) (cond (ltb 1 (r .order)) (filterAxis (r .mode) (r .order) (r .dims) axis input) input) output
-
--- ---- what the engine asks of a request that no refusal met: the numbers are the lengths of input and output
-pub record Admitted (r : Request) (a : Axes) (input output : ℕ) : Type 0 where
-  pub order : r .order ≤ 5
-  pub lengths : Lengths (r .dims)
-  pub all : input ≡ countOf (r .dims)
-  pub values : output ≡ a .x .out * (a .y .out * a .z .out)
-  pub some : 1 ≤ a .z .out
-  pub x : Reaches (r .order) (a .x)
-  pub y : Reaches (r .order) (a .y)
-  pub z : Reaches (r .order) (a .z)
-  pub long : countOf (sourceDims r) ≡ a .x .len * (a .y .len * a .z .len)
-  pub rows : a .y .len ≤ 4120
-  pub row : a .z .len ≤ 4120
-
--- and of the lengths of all four buffers
-pub record Passes (r : Request) (a : Axes) (input output coverage work : ℕ) : Type 0 where
-  pub admitted : Admitted r a input output
-  pub codes : coverage ≡ a .x .out * (a .y .out * a .z .out)
-  pub room : needed r ≤ work

@@ -3,10 +3,13 @@ ghost use mathlib.Core.Path.{_≡_};
 ghost use mathlib.Core.Bool.{true, false};
 ghost use Prim.Native.Nat.{_*_, _≤_};
 ghost use lib.ListN.{length};
+ghost use Rattle.limits.specs.Limits.{longest};
 ghost use Rattle.prefilter.specs.Volume.{countOf};
-ghost use Rattle.request.specs.Sizes.{filters, sourceDims, needed, Lengths};
+ghost use Rattle.request.specs.Sizes.{filters, sourceDims, needed};
+ghost use Rattle.request.specs.Bookkeeping.{Lengths};
 ghost use Rattle.coverage.specs.Coverage.{countsOf};
-ghost use Rattle.resample.specs.Call.{sourceOf, coefficients, callOf, valuesOf, codesOf, workAfter, success, Admitted, Passes};
+ghost use Rattle.resample.specs.Call.{sourceOf, coefficients, callOf, valuesOf, codesOf, workAfter, success};
+ghost use Rattle.resample.specs.Bookkeeping.{Admitted, Passes};
 ghost use Rattle.resample.specs.declared.Answer.the-variants.{Done};
 use axis::coordinate::pad_of;
 use coverage::counts::Counts;
@@ -94,7 +97,7 @@ fn write_values(r: Request, a: Axes, input: &[f64], output: &mut [f64], work: &m
 // The codes, and their counts.
 fn write_codes(r: Request, a: Axes, coverage: &mut [u8]) -> Counts
     requires { ⌜ length (now coverage) ≡ a .x .out * (a .y .out * a .z .out) ⌝ }
-    requires { ⌜ (a .y .out ≤ 4096) × ((1 ≤ a .z .out) × (a .z .out ≤ 4096)) ⌝ }
+    requires { ⌜ (a .y .out ≤ longest) × ((1 ≤ a .z .out) × (a .z .out ≤ longest)) ⌝ }
     ensures { λ c. ⌜ (now (coverage .exit) ≡ codesOf r a) × (c ≡ countsOf (codesOf r a)) ⌝ }
 {
     let mode = r.mode;

@@ -9,7 +9,7 @@ use lib.ListN.{getD, take, drop}
 use lib.Ieee.{Float, nan}
 use Rattle.lists.proofs.Stretches.{next, in-part}
 use Rattle.exact.specs.Rounded.{_⊗_}
-use Rattle.voxels.specs.Lent.{column, lane}
+use Rattle.voxels.specs.Bookkeeping.{column, lane}
 use Rattle.voxels.specs.Sum.{Tap, term, sumX, sumY, sumZ}
 
 -- ---- what holds in each of the four lanes

@@ -12,19 +12,21 @@ use lib.ListN.{length, getD, set, length-set}
 use lib.Seq.{getD-set-same, getD-set-other}
 use lib.Ieee.{Float, nan}
 use borrow.Author.Tests.{ne-eqb}
-use Rattle.lists.specs.Tabulate.{tabulate, Filled}
+use Rattle.lists.specs.Tabulate.{tabulate}
+use Rattle.lists.specs.Bookkeeping.{Filled}
 use Rattle.lists.proofs.Tabulated.{getD-tabulate, tabulate-same}
 use Rattle.border.specs.declared.BorderMode.{BorderMode}
 use Rattle.axis.specs.declared.coordinate.Axis.{Axis}
-use Rattle.axis.specs.Point.{pointAt, Reached}
+use Rattle.axis.specs.Point.{pointAt}
+use Rattle.axis.specs.Bookkeeping.{Reached}
 use Rattle.voxels.specs.Sum.{Tap, sumY, sumZ, sumAt}
 use Rattle.voxels.specs.declared.sum.Four.{Four}
-use Rattle.voxels.specs.Lent.{column, lane, number, Planes}
-use Rattle.voxels.specs.Table.{Tabled}
+use Rattle.voxels.specs.Bookkeeping.{column, lane, number, Planes}
+use Rattle.voxels.specs.Bookkeeping.{Tabled}
 use Rattle.coverage.specs.Coverage.{keptAt, dropValue, xOf, yOf, zOf}
 use Rattle.voxels.specs.Voxel.{tapOf, computed, voxelAt, values}
 use Rattle.voxels.proofs.Tables.{point-inside}
-use Rattle.voxels.specs.Sweep.{withVoxel, withFour, rowValue, planeValue, volumeValue}
+use Rattle.voxels.specs.Bookkeeping.{withVoxel, withFour, rowValue, planeValue, volumeValue}
 
 -- ---- the first k places, those that there are
 abbrev pub Upto : {A : Type 0} → (ℕ → A) → A → List A → ℕ → Type 0

@@ -19,15 +19,16 @@ use Rattle.lists.specs.Tabulate.{tabulate}
 use Rattle.lists.proofs.Tabulated.{getD-tabulate, length-tabulate}
 use Rattle.border.specs.declared.BorderMode.{BorderMode}
 use Rattle.axis.specs.declared.coordinate.Axis.{Axis}
-use Rattle.axis.specs.declared.taps.Taps.{Taps}
+use Rattle.axis.specs.declared.point.Point.{Point}
 use Rattle.axis.specs.Coordinate.{settled, kept}
 use Rattle.axis.specs.Weights.{buildSplines}
 use Rattle.axis.specs.Neighbours.{firstNeighbour, outside, neighbourIndex}
-use Rattle.axis.specs.Point.{empty, neighbours, keptPoint, pointAt, Reached}
+use Rattle.axis.specs.Point.{empty, neighbours, keptPoint, pointAt}
+use Rattle.axis.specs.Bookkeeping.{Reached}
 use Rattle.axis.proofs.Reaches.{settled-within}
 use Rattle.axis.proofs.Points.{placeOf}
 use Rattle.axis.proofs.Inside.{index-inside}
-use Rattle.voxels.specs.Table.{Tabled, Column}
+use Rattle.voxels.specs.Bookkeeping.{Tabled, Column}
 
 -- ---- a column, one place more
 pub column-none : {A : Type 0} (d : A) (i : ℕ) (c l : List A) → Column d i c l l 0
@@ -63,7 +64,7 @@ neighbours-inside order mode L to k o two top w a =
     go true h = index-inside order mode L to k o two top w a (h refl)
     go false h = omega arith
 
-at-cond : (t : Bool) (p q : Taps) (k L : ℕ) → (t ≡ true → getD (p .at) k 0 < L) → getD (q .at) k 0 < L → getD (cond t p q .at) k 0 < L
+at-cond : (t : Bool) (p q : Point) (k L : ℕ) → (t ≡ true → getD (p .at) k 0 < L) → getD (q .at) k 0 < L → getD (cond t p q .at) k 0 < L
 at-cond true p q k L h g = h refl
 at-cond false p q k L h g = g
 
@@ -83,7 +84,7 @@ point-inside order mode a i k r =
 
 -- ---- one output index more
 pub tabled-more :
-    (order : ℕ) (mode : BorderMode) (a : Axis) (i : ℕ) (at at' : List ℕ) (weight weight' : List Float) (p : Taps) → p ≡ pointAt order mode a i → Reached order a i → i < 4096 →
+    (order : ℕ) (mode : BorderMode) (a : Axis) (i : ℕ) (at at' : List ℕ) (weight weight' : List Float) (p : Point) → p ≡ pointAt order mode a i → Reached order a i → i < 4096 →
     Column 0 i (p .at) at at' 6 → Column nan i (p .weight) weight weight' 6 → Tabled order mode a at weight i → Tabled order mode a at' weight' (i + 1)
 tabled-more order mode a i at at' weight weight' p e r I c w t = record {
   long = c .same ∙ t .long;
@@ -92,13 +93,13 @@ tabled-more order mode a i at at' weight weight' p e r I c w t = record {
   places = λ j k h l.
       let le : j ≤ i = omega arith in
       elim (eq-or-lt-of-le le) [
-        | inl q ↦ rw q (c .set k l ∙ ap (λ (x : Taps). getD (x .at) k 0) e)
+        | inl q ↦ rw q (c .set k l ∙ ap (λ (x : Point). getD (x .at) k 0) e)
         | inr b ↦ c .rest (k * 4096 + j) (λ k' l' z. omega arith) ∙ t .places j k b l
       ];
   weights = λ j k h l.
       let le : j ≤ i = omega arith in
       elim (eq-or-lt-of-le le) [
-        | inl q ↦ rw q (w .set k l ∙ ap (λ (x : Taps). getD (x .weight) k nan) e)
+        | inl q ↦ rw q (w .set k l ∙ ap (λ (x : Point). getD (x .weight) k nan) e)
         | inr b ↦ w .rest (k * 4096 + j) (λ k' l' z. omega arith) ∙ t .weights j k b l
       ];
 }
@@ -106,7 +107,7 @@ tabled-more order mode a i at at' weight weight' p e r I c w t = record {
     hit : (m : ℕ) → m % 4096 ≡ i → m / 4096 < 6 → getD at' m 0 < a .len
     hit m q b =
         let z : m ≡ m / 4096 * 4096 + i = omega arith in
-        subst (λ (n : ℕ). n < a .len) (sym (ap (λ (x : ℕ). getD at' x 0) z ∙ c .set (m / 4096) b ∙ ap (λ (x : Taps). getD (x .at) (m / 4096) 0) e)) (point-inside order mode a i (m / 4096) r)
+        subst (λ (n : ℕ). n < a .len) (sym (ap (λ (x : ℕ). getD at' x 0) z ∙ c .set (m / 4096) b ∙ ap (λ (x : Point). getD (x .at) (m / 4096) 0) e)) (point-inside order mode a i (m / 4096) r)
 
     miss : (m : ℕ) → ((k : ℕ) → k < 6 → m ≡ k * 4096 + i → ⊥) → m < length at → getD at' m 0 < a .len
     miss m n h = subst (λ (x : ℕ). x < a .len) (sym (c .rest m n)) (t .inside m h)

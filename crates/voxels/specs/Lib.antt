@@ -1,6 +1,5 @@
 -- What each output voxel holds.
 pub mod Sum
-pub mod Lent
-pub mod Table
 pub mod Voxel
-pub mod Sweep
+-- The code's own bookkeeping. No promise speaks of it.
+pub mod Bookkeeping

@@ -15,6 +15,10 @@ pub record Tap : Type 0 where
   pub at : ℕ → ℕ
   pub weight : ℕ → Float
 
+-- those that stand in two lists, neighbour k at place k
+abbrev pub lent : List ℕ → List Float → Tap
+lent at weight = record { at = λ k. getD at k 0; weight = λ k. getD weight k nan }
+
 -- s with the first k products along axis 0: at place `place` of each plane, with the weight v of the other two axes
 unfoldable pub sumX : List Float → ℕ → Tap → ℕ → Float → Float → ℕ → Float
 sumX xs plane x place v s zero = s

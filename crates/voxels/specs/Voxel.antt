@@ -8,14 +8,14 @@ use lib.Ieee.{Float, nan}
 use Rattle.lists.specs.Tabulate.{tabulate}
 use Rattle.border.specs.declared.BorderMode.{BorderMode}
 use Rattle.axis.specs.declared.coordinate.Axis.{Axis}
-use Rattle.axis.specs.declared.taps.Taps.{Taps}
+use Rattle.axis.specs.declared.point.Point.{Point}
 use Rattle.axis.specs.Point.{pointAt}
 use Rattle.voxels.specs.Sum.{Tap, sumAt}
-use Rattle.voxels.specs.Lent.{lent}
+use Rattle.voxels.specs.Sum.{lent}
 use Rattle.coverage.specs.Coverage.{keptAt, dropValue, xOf, yOf, zOf}
 
 -- the neighbours of a record
-abbrev pub tapOf : Taps → Tap
+abbrev pub tapOf : Point → Tap
 tapOf t = lent (t .at) (t .weight)
 
 -- what is computed from the coefficients xs, with planes of `plane` places and rows of `row`

@@ -5,9 +5,12 @@ ghost use mathlib.Core.Path.{_≡_};
 ghost use Prim.Native.Nat.{ℕ, _+_, _*_, _<_, _≤_};
 ghost use lib.ListN.{length, getD};
 ghost use lib.Ieee.{nan};
+ghost use Rattle.limits.specs.Limits.{longest};
 ghost use Rattle.exact.specs.Rounded.{_⊗_};
 ghost use Rattle.voxels.specs.Sum.{term, sumX, sumY, sumAt};
-ghost use Rattle.voxels.specs.Lent.{lent, column, Planes, Inside, lane, number, place};
+ghost use Rattle.voxels.specs.Bookkeeping.{tableSize, column, Planes, Inside, lane, number, place};
+ghost use Rattle.voxels.specs.Sum.{lent};
+use limits::LONGEST;
 
 // A number for each of four voxels.
 pub struct Four {
@@ -170,10 +173,10 @@ pub(crate) fn sum_four(
     o: usize,
 ) -> Four
     requires { ⌜ n ≤ 6 ⌝ }
-    requires { ⌜ o < 4096 ⌝ }
+    requires { ⌜ o < longest ⌝ }
     requires { ⌜ Planes (now nx) n plane (length (now «data»)) ⌝ }
     requires { ⌜ Planes (now ny) n row plane ⌝ }
-    requires { ⌜ (24580 ≤ length (now at)) × (24580 ≤ length (now weight)) ⌝ }
+    requires { ⌜ (tableSize ≤ length (now at)) × (tableSize ≤ length (now weight)) ⌝ }
     requires { ⌜ Inside (now at) row ⌝ }
     ensures { λ r. ⌜ ((j : ℕ) → number r j ≡ sumAt (now («data» .entry)) plane row n (lent (now (nx .entry)) (now (wx .entry))) (lent (now (ny .entry)) (now (wy .entry))) (column (now (at .entry)) (now (weight .entry)) (o + lane j))) ⌝ }
 {
@@ -185,7 +188,7 @@ pub(crate) fn sum_four(
     };
     let mut k = 0;
     while k < n {
-        let i = k * 4096 + o;
+        let i = k * LONGEST + o;
         t = add_y(
             data,
             plane,

@@ -1,26 +1,30 @@
 // The values of a volume, row by row. The last axis stands in a table and in flags; a record of axis 0
 // is made for each plane, one of axis 1 for each row.
 ghost use mathlib.Core.Path.{_≡_};
-ghost use mathlib.Core.Bool.{false, _&&_, cond};
+ghost use mathlib.Core.Bool.{false, cond};
 ghost use Prim.Native.Nat.{ℕ, _+_, _*_, _<_, _≤_};
 ghost use lib.ListN.{length, getD};
 ghost use lib.Ieee.{nan};
+ghost use Rattle.limits.specs.Limits.{longest, longestPadded};
 ghost use Rattle.lists.specs.Tabulate.{tabulate};
 ghost use Rattle.voxels.specs.Sum.{sumAt};
-ghost use Rattle.voxels.specs.Lent.{lent, column, Planes, Inside};
-ghost use Rattle.voxels.specs.Table.{Reaches};
+ghost use Rattle.voxels.specs.Bookkeeping.{tableSize, column, Planes, Inside};
+ghost use Rattle.voxels.specs.Sum.{lent};
+ghost use Rattle.voxels.specs.Bookkeeping.{Reaches};
 ghost use Rattle.coverage.specs.Coverage.{dropValue};
 ghost use Rattle.voxels.specs.Voxel.{computed, values};
-ghost use Rattle.voxels.specs.Sweep.{withVoxel, withFour, rowValue, planeValue, volumeValue};
+ghost use Rattle.voxels.specs.Bookkeeping.{withVoxel, withFour, rowValue, planeValue, volumeValue};
 use crate::sum::Four;
 use crate::sum::sum_four;
+use crate::table::TABLE;
 use crate::table::fill_table;
 use axis::coordinate::Axis;
-use axis::taps::taps_at;
+use axis::point::point_at;
 use border::BorderMode;
 use coverage::cover::both;
 use coverage::cover::is_kept;
 use coverage::cover::mark_kept;
+use limits::LONGEST;
 
 // The value of a dropped voxel.
 fn drop_value(mode: BorderMode) -> f64
@@ -76,7 +80,7 @@ fn put(out: &mut [f64], kept: &[bool], k: usize, value: f64, dropped: f64)
 
 // Voxels o to o + 3, those that there are.
 fn put_four(out: &mut [f64], kept: &[bool], o: usize, t: Four, dropped: f64)
-    requires { ⌜ (length (now out) ≤ length (now kept)) × (o < 4096) ⌝ }
+    requires { ⌜ (length (now out) ≤ length (now kept)) × (o < longest) ⌝ }
     ensures { λ _. ⌜ now (out .exit) ≡ withFour (now (kept .entry)) dropped (now (out .entry)) o t ⌝ }
 {
     put(out, kept, o, t.a, dropped);
@@ -102,10 +106,10 @@ fn sum_row(
     dropped: f64,
 )
     requires { ⌜ n ≤ 6 ⌝ }
-    requires { ⌜ (length (now out) ≤ 4096) × (length (now out) ≤ length (now kept)) ⌝ }
+    requires { ⌜ (length (now out) ≤ longest) × (length (now out) ≤ length (now kept)) ⌝ }
     requires { ⌜ Planes (now nx) n plane (length (now «data»)) ⌝ }
     requires { ⌜ Planes (now ny) n row plane ⌝ }
-    requires { ⌜ (24580 ≤ length (now at)) × (24580 ≤ length (now weight)) ⌝ }
+    requires { ⌜ (tableSize ≤ length (now at)) × (tableSize ≤ length (now weight)) ⌝ }
     requires { ⌜ Inside (now at) row ⌝ }
     ensures { λ _. ⌜ now (out .exit) ≡ tabulate (length (now (out .entry))) (λ k. cond (getD (now (kept .entry)) k false) (sumAt (now («data» .entry)) plane row n (lent (now (nx .entry)) (now (wx .entry))) (lent (now (ny .entry)) (now (wy .entry))) (column (now (at .entry)) (now (weight .entry)) k)) dropped) ⌝ }
 {
@@ -134,10 +138,10 @@ fn kept_row(
     dropped: f64,
 )
     requires { ⌜ order ≤ 5 ⌝ }
-    requires { ⌜ (length (now out) ≤ 4096) × (length (now out) ≤ length (now kept)) ⌝ }
+    requires { ⌜ (length (now out) ≤ longest) × (length (now out) ≤ length (now kept)) ⌝ }
     requires { ⌜ Planes (now nx) (order + 1) plane (length (now «data»)) ⌝ }
     requires { ⌜ Planes (now ny) (order + 1) row plane ⌝ }
-    requires { ⌜ (24580 ≤ length (now at)) × (24580 ≤ length (now weight)) ⌝ }
+    requires { ⌜ (tableSize ≤ length (now at)) × (tableSize ≤ length (now weight)) ⌝ }
     requires { ⌜ Inside (now at) row ⌝ }
     ensures { λ _. ⌜ now (out .exit) ≡ tabulate (length (now (out .entry))) (λ k. cond (getD (now (kept .entry)) k false) (computed order (now («data» .entry)) plane row (lent (now (nx .entry)) (now (wx .entry))) (lent (now (ny .entry)) (now (wy .entry))) (column (now (at .entry)) (now (weight .entry)) k)) dropped) ⌝ }
 {
@@ -189,10 +193,10 @@ fn value_row(
     mode: BorderMode,
 )
     requires { ⌜ order ≤ 5 ⌝ }
-    requires { ⌜ (length (now out) ≤ 4096) × (length (now out) ≤ length (now kept)) ⌝ }
+    requires { ⌜ (length (now out) ≤ longest) × (length (now out) ≤ length (now kept)) ⌝ }
     requires { ⌜ Planes (now nx) (order + 1) plane (length (now «data»)) ⌝ }
     requires { ⌜ Planes (now ny) (order + 1) row plane ⌝ }
-    requires { ⌜ (24580 ≤ length (now at)) × (24580 ≤ length (now weight)) ⌝ }
+    requires { ⌜ (tableSize ≤ length (now at)) × (tableSize ≤ length (now weight)) ⌝ }
     requires { ⌜ Inside (now at) row ⌝ }
     ensures { λ _. ⌜ now (out .exit) ≡ tabulate (length (now (out .entry))) (rowValue order mode (now («data» .entry)) plane row (now (kept .entry)) (now (at .entry)) (now (weight .entry)) (lent (now (nx .entry)) (now (wx .entry))) (lent (now (ny .entry)) (now (wy .entry))) others) ⌝ }
 {
@@ -237,10 +241,10 @@ fn value_plane(
 )
     requires { ⌜ order ≤ 5 ⌝ }
     requires { ⌜ length (now out) ≡ ya .out * width ⌝ }
-    requires { ⌜ (width ≤ 4096) × (width ≤ length (now kept)) ⌝ }
+    requires { ⌜ (width ≤ longest) × (width ≤ length (now kept)) ⌝ }
     requires { ⌜ Planes (now nx) (order + 1) plane (length (now «data»)) ⌝ }
     requires { ⌜ plane ≡ ya .len * row ⌝ }
-    requires { ⌜ (24580 ≤ length (now at)) × (24580 ≤ length (now weight)) ⌝ }
+    requires { ⌜ (tableSize ≤ length (now at)) × (tableSize ≤ length (now weight)) ⌝ }
     requires { ⌜ Inside (now at) row ⌝ }
     requires { ⌜ Reaches order ya ⌝ }
     ensures { λ _. ⌜ now (out .exit) ≡ tabulate (ya .out * width) (planeValue order mode (now («data» .entry)) plane row (now (kept .entry)) (now (at .entry)) (now (weight .entry)) ya width (lent (now (nx .entry)) (now (wx .entry))) first) ⌝ }
@@ -249,7 +253,7 @@ fn value_plane(
     let mut j = 0;
     while j < n {
         let others = both(first, is_kept(ya, j, mode));
-        let t = taps_at(ya, j, order, mode);
+        let t = point_at(ya, j, order, mode);
         let ny = t.at;
         let wy = t.weight;
         value_row(
@@ -288,10 +292,10 @@ fn value_planes(
 )
     requires { ⌜ order ≤ 5 ⌝ }
     requires { ⌜ length (now out) ≡ xa .out * (ya .out * width) ⌝ }
-    requires { ⌜ (width ≤ 4096) × (width ≤ length (now kept)) ⌝ }
+    requires { ⌜ (width ≤ longest) × (width ≤ length (now kept)) ⌝ }
     requires { ⌜ length (now «data») ≡ xa .len * (ya .len * row) ⌝ }
-    requires { ⌜ (ya .len ≤ 4120) × (row ≤ 4120) ⌝ }
-    requires { ⌜ (24580 ≤ length (now at)) × (24580 ≤ length (now weight)) ⌝ }
+    requires { ⌜ (ya .len ≤ longestPadded) × (row ≤ longestPadded) ⌝ }
+    requires { ⌜ (tableSize ≤ length (now at)) × (tableSize ≤ length (now weight)) ⌝ }
     requires { ⌜ Inside (now at) row ⌝ }
     requires { ⌜ Reaches order xa × Reaches order ya ⌝ }
     ensures { λ _. ⌜ now (out .exit) ≡ tabulate (xa .out * (ya .out * width)) (volumeValue order mode (now («data» .entry)) (ya .len * row) row (now (kept .entry)) (now (at .entry)) (now (weight .entry)) xa ya width) ⌝ }
@@ -302,7 +306,7 @@ fn value_planes(
     let mut i = 0;
     while i < n {
         let first = is_kept(xa, i, mode);
-        let t = taps_at(xa, i, order, mode);
+        let t = point_at(xa, i, order, mode);
         let nx = t.at;
         let wx = t.weight;
         value_plane(
@@ -338,13 +342,13 @@ pub fn sweep(
     requires { ⌜ order ≤ 5 ⌝ }
     requires { ⌜ length (now out) ≡ xa .out * (ya .out * za .out) ⌝ }
     requires { ⌜ length (now «data») ≡ xa .len * (ya .len * za .len) ⌝ }
-    requires { ⌜ (ya .len ≤ 4120) × ((za .len ≤ 4120) × (1 ≤ za .out)) ⌝ }
+    requires { ⌜ (ya .len ≤ longestPadded) × ((za .len ≤ longestPadded) × (1 ≤ za .out)) ⌝ }
     requires { ⌜ Reaches order xa × (Reaches order ya × Reaches order za) ⌝ }
     ensures { λ _. ⌜ now (out .exit) ≡ values order mode xa ya za (now («data» .entry)) ⌝ }
 {
-    let mut kept = [false; 4096];
-    let mut at = [0; 24580];
-    let mut weight = [0.0; 24580];
+    let mut kept = [false; LONGEST];
+    let mut at = [0; TABLE];
+    let mut weight = [0.0; TABLE];
     mark_kept(&mut kept, za, mode);
     fill_table(&mut at, &mut weight, za, order, mode);
     value_planes(

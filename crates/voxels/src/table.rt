@@ -1,32 +1,37 @@
 // The table of the last axis: the neighbours and weights of every output index, those of neighbour k
-// from place k * 4096 on.
+// from place k * LONGEST on.
 ghost use mathlib.Core.Path.{_≡_};
-ghost use Prim.Native.Nat.{ℕ, _+_, _*_, _<_, _≤_};
+ghost use Prim.Native.Nat.{_+_, _*_, _<_};
 ghost use lib.ListN.{length};
 ghost use lib.Ieee.{nan};
-ghost use Rattle.voxels.specs.Table.{Tabled, Column, Reaches};
+ghost use Rattle.limits.specs.Limits.{longest};
+ghost use Rattle.voxels.specs.Bookkeeping.{tableSize, Tabled, Column, Reaches};
 use axis::coordinate::Axis;
-use axis::taps::taps_at;
+use axis::point::point_at;
 use border::BorderMode;
+use limits::LONGEST;
+
+// A column of LONGEST places for each of six neighbours; the last block of a row reads three past it.
+pub(crate) const TABLE: usize = 24580;
 
 fn put_places(table: &mut [usize], column: &[usize; 6], i: usize)
-    requires { ⌜ (length (now table) ≡ 24580) × (i < 4096) ⌝ }
+    requires { ⌜ (length (now table) ≡ tableSize) × (i < longest) ⌝ }
     ensures { λ _. ⌜ Column 0 i (now (column .entry)) (now (table .entry)) (now (table .exit)) 6 ⌝ }
 {
     let mut k = 0;
     while k < 6 {
-        table[k * 4096 + i] = column[k];
+        table[k * LONGEST + i] = column[k];
         k += 1;
     }
 }
 
 fn put_weights(table: &mut [f64], column: &[f64; 6], i: usize)
-    requires { ⌜ (length (now table) ≡ 24580) × (i < 4096) ⌝ }
+    requires { ⌜ (length (now table) ≡ tableSize) × (i < longest) ⌝ }
     ensures { λ _. ⌜ Column nan i (now (column .entry)) (now (table .entry)) (now (table .exit)) 6 ⌝ }
 {
     let mut k = 0;
     while k < 6 {
-        table[k * 4096 + i] = column[k];
+        table[k * LONGEST + i] = column[k];
         k += 1;
     }
 }
@@ -46,7 +51,7 @@ pub(crate) fn fill_table(
     let n = a.out;
     let mut i = 0;
     while i < n {
-        let t = taps_at(a, i, order, mode);
+        let t = point_at(a, i, order, mode);
         let p = t.at;
         let w = t.weight;
         put_places(at, &p, i);

@@ -16,7 +16,8 @@ use Rattle.refusal.specs.declared.Refusal.{Refusal}
 use Rattle.refusal.specs.declared.Refusal.the-variants.{Buffer, Value, Beside}
 use Rattle.refusal.specs.declared.Verdict.{Verdict}
 use Rattle.refusal.specs.declared.Verdict.the-variants.{Passed, Refused}
-use Rattle.request.specs.Sizes.{needed, zoomDims, shiftAxes, zoomAxes, Lengths}
+use Rattle.request.specs.Sizes.{needed, zoomDims, shiftAxes, zoomAxes}
+use Rattle.request.specs.Bookkeeping.{Lengths}
 use Rattle.request.specs.Conditions.{wrong, wildFill, someWild, besideAny}
 use Rattle.refusal.specs.Refusals.{Check, numberOf, first, resampleChecks, shiftChecks, zoomChecks, numberBy}
 use Rattle.refusal.proofs.Firsts.{skip, stop}

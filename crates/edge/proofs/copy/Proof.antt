@@ -7,7 +7,7 @@ use native.Mathlib.Omega.{arith}
 use lib.ListN.{length, length-set}
 use lib.Seq.{ext-getD}
 use lib.Ieee.{nan}
-use Rattle.lists.specs.Tabulate.{Filled}
+use Rattle.lists.specs.Bookkeeping.{Filled}
 use Rattle.lists.proofs.Stretches.{store}
 use Rattle.lane.specs.Lane.{at}
 use Rattle.edge.proofs.copy.Statement.{statement}

@@ -5,7 +5,7 @@ use mathlib.Core.List.{List}
 use borrow.Author.Needs.{needs}
 use native.Mathlib.Omega.{arith}
 use lib.Ieee.{Float}
-use Rattle.poles.specs.Poles.{polesIn}
+use Rattle.poles.specs.Bookkeeping.{polesIn}
 use Rattle.lane.specs.Lane.{filterLane}
 use Rattle.lanes.proofs.Grids.{lanes-few, of-length}
 use Rattle.lanes.proofs.Replacements.{four}

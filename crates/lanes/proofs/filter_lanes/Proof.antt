@@ -3,9 +3,9 @@ use Prim.Native.Nat.{_-_}
 use mathlib.Core.Path.{refl}
 use mathlib.Core.Logic.{inr}
 use native.Mathlib.Omega.{arith}
-use Rattle.poles.specs.Poles.{polesIn}
+use Rattle.poles.specs.Bookkeeping.{polesIn}
 use Rattle.lane.specs.Lane.{filterLane}
-use Rattle.lanes.specs.Lanes.{Replaced, lanesBy}
+use Rattle.lanes.specs.Bookkeeping.{Replaced, lanesBy}
 use Rattle.lanes.proofs.Grids.{lanes-few, of-length}
 use Rattle.lanes.proofs.Replacements.{none, further, all}
 use Rattle.lanes.proofs.filter_lanes.Statement.{statement}

@@ -3,7 +3,7 @@ use Prim.Native.Nat.{_*_, _-_, _≤_}
 use mathlib.Core.Path.{_≡_}
 use borrow.Author.Needs.{needs}
 use native.Mathlib.Omega.{arith}
-use Rattle.lanes.specs.Lanes.{Written}
+use Rattle.lanes.specs.Bookkeeping.{Written}
 use Rattle.lanes.proofs.Grids.{reaches}
 use Rattle.lanes.proofs.Writing.{nothing, number, of-front}
 use Rattle.lanes.proofs.put_lane.Statement.{statement}

@@ -5,7 +5,8 @@ use mathlib.Core.Logic.{inl, inr}
 use native.Mathlib.Omega.{arith}
 use lib.Dec.{lit≤}
 use lib.Ieee.{ofBits, neg}
-use Rattle.poles.specs.Poles.{polesIn, polesOf}
+use Rattle.poles.specs.Poles.{polesOf}
+use Rattle.poles.specs.Bookkeeping.{polesIn}
 use Rattle.poles.proofs.get_filter_poles.Statement.{statement}
 use Rattle.poles.proofs.get_filter_poles.Tie as tie
 

@@ -6,7 +6,7 @@ use borrow.Author.Needs.{needs}
 use native.Mathlib.Omega.{arith}
 use lib.Dec.{lit≤}
 use lib.Ieee.{Float}
-use Rattle.poles.specs.Poles.{polesIn, Sound}
+use Rattle.poles.specs.Bookkeeping.{polesIn, Sound}
 use Rattle.lane.specs.Lane.{filterLane}
 use Rattle.lanes.specs.Along.{filterAlong}
 use Rattle.prefilter.specs.Volume.{filterAxis, lengthOf, strideOf}

@@ -4,7 +4,7 @@ use mathlib.Core.Path.{_≡_, refl, _∙_}
 use borrow.Rule.Slice.PartMut.{same-len-mid}
 use native.Mathlib.Omega.{arith}
 use lib.ListN.{length}
-use Rattle.poles.specs.Poles.{polesIn}
+use Rattle.poles.specs.Bookkeeping.{polesIn}
 use Rattle.lane.specs.Lane.{filterLane}
 use Rattle.lanes.specs.Along.{filterAlong}
 use Rattle.lanes.proofs.Grids.{of-length}

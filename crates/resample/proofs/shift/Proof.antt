@@ -5,7 +5,8 @@ use Rattle.request.specs.declared.Axes.{Axes}
 use Rattle.refusal.specs.declared.Verdict.the-variants.{Passed}
 use Rattle.request.specs.Sizes.{shiftAxes}
 use Rattle.refusal.specs.Refusals.{first, shiftChecks}
-use Rattle.resample.specs.Call.{Passes, shiftCall}
+use Rattle.resample.specs.Call.{shiftCall}
+use Rattle.resample.specs.Bookkeeping.{Passes}
 use Rattle.resample.proofs.Admitting.{shift-passes, call-passed, call-refused}
 use borrow.Author.Needs.{needs}
 use Rattle.resample.proofs.shift.Statement.{statement}

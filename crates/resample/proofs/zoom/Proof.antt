@@ -5,9 +5,11 @@ use mathlib.Core.List.{List}
 use lib.ListN.{length}
 use Rattle.request.specs.declared.Axes.{Axes}
 use Rattle.refusal.specs.declared.Verdict.the-variants.{Passed}
-use Rattle.request.specs.Sizes.{zoomDims, zoomAxes, Lengths, Zoomed}
+use Rattle.request.specs.Sizes.{zoomDims, zoomAxes}
+use Rattle.request.specs.Bookkeeping.{Lengths, Zoomed}
 use Rattle.refusal.specs.Refusals.{first, zoomChecks}
-use Rattle.resample.specs.Call.{Passes, zoomCall}
+use Rattle.resample.specs.Call.{zoomCall}
+use Rattle.resample.specs.Bookkeeping.{Passes}
 use Rattle.resample.proofs.Admitting.{zoom-passes, zoom-ready, call-passed, call-refused}
 use borrow.Author.Needs.{needs}
 use Rattle.resample.proofs.zoom.Statement.{statement}

@@ -8,7 +8,8 @@ use lib.Ieee.{ofBits, ofInt}
 use borrow.Author.Tests.{lt-ltb, le-ltb, not-true, not-false}
 use Rattle.exact.specs.Rounded.{num}
 use Rattle.request.specs.declared.Request.{Request}
-use Rattle.request.specs.Sizes.{needed, Lengths}
+use Rattle.request.specs.Sizes.{needed}
+use Rattle.request.specs.Bookkeeping.{Lengths}
 use Rattle.request.specs.Conditions.{badLengths}
 use Rattle.request.proofs.Requests.{good-lengths}
 use Rattle.numbers.specs.Numbers.{isMode, plainRequestOf}

@@ -5,7 +5,7 @@ use mathlib.Core.Bool.{false}
 use lib.Dec.{ltb}
 use lib.Ieee.{Float, lt, le}
 use borrow.Author.Tests.{ltb-false}
-use Rattle.axis.specs.Length.{Zooms}
+use Rattle.axis.specs.Bookkeeping.{Zooms}
 use Rattle.exact.specs.Rounded.{num}
 use Rattle.request.specs.Conditions.{badLength, badZoom}
 use Rattle.request.proofs.Requests.{or-false, not-both}

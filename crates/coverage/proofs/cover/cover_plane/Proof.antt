@@ -6,7 +6,8 @@ use native.Mathlib.Omega.{arith}
 use lib.ListN.{length, getD, take, drop}
 use Rattle.lists.specs.Tabulate.{tabulate}
 use Rattle.lists.proofs.Stretches.{next, part-length, Written, none-written, stretch-within, next-written, all-written}
-use Rattle.coverage.specs.Coverage.{codeBy, codeInPlane}
+use Rattle.coverage.specs.Coverage.{codeBy}
+use Rattle.coverage.specs.Bookkeeping.{codeInPlane}
 use Rattle.coverage.proofs.Covering.{row-filled}
 use Rattle.coverage.proofs.cover.cover_plane.Statement.{statement}
 use Rattle.coverage.proofs.cover.cover_plane.Tie as tie

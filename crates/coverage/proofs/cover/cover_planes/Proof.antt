@@ -5,7 +5,7 @@ use native.Mathlib.Nat.{mul-le-mul}
 use native.Mathlib.Omega.{arith}
 use lib.ListN.{length, take, drop}
 use Rattle.lists.proofs.Stretches.{next, part-length, Written, none-written, stretch-within, next-written, all-written}
-use Rattle.coverage.specs.Coverage.{codeByFlags}
+use Rattle.coverage.specs.Bookkeeping.{codeByFlags}
 use Rattle.coverage.proofs.Covering.{plane-filled}
 use Rattle.coverage.proofs.cover.cover_planes.Statement.{statement}
 use Rattle.coverage.proofs.cover.cover_planes.Tie as tie

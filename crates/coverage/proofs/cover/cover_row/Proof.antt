@@ -5,7 +5,8 @@ use mathlib.Core.Bool.{false, _&&_, cond}
 use native.Mathlib.Nat.{not-suc-le-zero}
 use native.Mathlib.Omega.{arith}
 use lib.ListN.{length, getD, length-set}
-use Rattle.lists.specs.Tabulate.{tabulate, Filled}
+use Rattle.lists.specs.Tabulate.{tabulate}
+use Rattle.lists.specs.Bookkeeping.{Filled}
 use Rattle.lists.proofs.Tabulated.{is-tabulate}
 use Rattle.lists.proofs.Stretches.{put}
 use Rattle.coverage.proofs.cover.cover_row.Statement.{statement}

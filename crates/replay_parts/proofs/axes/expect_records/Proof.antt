@@ -14,8 +14,8 @@ abbrev μ-loop : tie.MeasureT-loop
 loop-holds : tie.Need-loop-holds Inv-loop μ-loop
 loop-holds c = search needs
 
-taps-at-requires : tie.Need-taps-at-requires Inv-loop μ-loop
-taps-at-requires c κs = let s = c .before .before .before .pre in record { upto = s .1 .0; least = s .0 .least; most = s .0 .most; bound = s .0 .bound (c .before .loop .i) (omega arith) }
+point-at-requires : tie.Need-point-at-requires Inv-loop μ-loop
+point-at-requires c κs = let s = c .before .before .before .pre in record { upto = s .1 .0; least = s .0 .least; most = s .0 .most; bound = s .0 .bound (c .before .loop .i) (omega arith) }
 
 add-expect-record : tie.Need-add-expect-record Inv-loop μ-loop
 add-expect-record c = search needs
@@ -42,7 +42,7 @@ expect-records-spec =
     Inv-loop
     μ-loop
     loop-holds
-    taps-at-requires
+    point-at-requires
     add-expect-record
     expect-record-requires
     add-i

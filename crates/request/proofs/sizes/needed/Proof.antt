@@ -4,7 +4,7 @@ use mathlib.Core.List.{List}
 use mathlib.Core.Path.{_∙_, sym, ap, subst}
 use borrow.Author.Needs.{needs}
 use Rattle.prefilter.specs.Volume.{countOf}
-use Rattle.request.specs.Sizes.{Small}
+use Rattle.request.specs.Bookkeeping.{Small}
 use Rattle.request.proofs.Requests.{source-small}
 use Rattle.request.proofs.sizes.needed.Statement.{statement}
 use Rattle.request.proofs.sizes.needed.Tie as tie

@@ -5,7 +5,8 @@ use native.Mathlib.Omega.{arith}
 use lib.ListN.{length, getD, length-take, length-drop}
 use borrow.Author.Needs.{needs}
 use Rattle.voxels.specs.Sum.{sumX}
-use Rattle.voxels.specs.Lent.{lent, number, place}
+use Rattle.voxels.specs.Bookkeeping.{number, place}
+use Rattle.voxels.specs.Sum.{lent}
 use Rattle.voxels.proofs.Sums.{Room, room, turn-x}
 use Rattle.voxels.proofs.sum.add_x.Statement.{statement}
 use Rattle.voxels.proofs.sum.add_x.Tie as tie

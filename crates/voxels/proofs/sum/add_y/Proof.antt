@@ -5,7 +5,8 @@ use native.Mathlib.Omega.{arith}
 use lib.ListN.{getD}
 use borrow.Author.Needs.{needs}
 use Rattle.voxels.specs.Sum.{sumY}
-use Rattle.voxels.specs.Lent.{lent, number, place}
+use Rattle.voxels.specs.Bookkeeping.{number, place}
+use Rattle.voxels.specs.Sum.{lent}
 use Rattle.voxels.proofs.Sums.{within, turn-y}
 use Rattle.voxels.proofs.sum.add_y.Statement.{statement}
 use Rattle.voxels.proofs.sum.add_y.Tie as tie

@@ -5,7 +5,8 @@ use native.Mathlib.Omega.{arith}
 use lib.Ieee.{ofBits, ofInt}
 use borrow.Author.Needs.{needs}
 use Rattle.voxels.specs.Sum.{sumZ, sumAt}
-use Rattle.voxels.specs.Lent.{lent, column, lane, number}
+use Rattle.voxels.specs.Bookkeeping.{column, lane, number}
+use Rattle.voxels.specs.Sum.{lent}
 use Rattle.voxels.proofs.Sums.{in-each, lane-below, turn-z}
 use Rattle.voxels.proofs.sum.sum_four.Statement.{statement}
 use Rattle.voxels.proofs.sum.sum_four.Tie as tie

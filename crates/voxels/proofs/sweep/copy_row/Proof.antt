@@ -7,7 +7,7 @@ use borrow.Author.Count.{below-none}
 use borrow.Author.Needs.{needs}
 use lib.ListN.{length, getD, length-set}
 use lib.Ieee.{nan}
-use Rattle.lists.specs.Tabulate.{Filled}
+use Rattle.lists.specs.Bookkeeping.{Filled}
 use Rattle.lists.proofs.Tabulated.{is-tabulate}
 use Rattle.lists.proofs.Stretches.{put}
 use Rattle.voxels.proofs.sweep.copy_row.Statement.{statement}

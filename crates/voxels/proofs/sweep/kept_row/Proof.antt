@@ -8,7 +8,8 @@ use lib.ListN.{length, getD, take, drop}
 use lib.Ieee.{Float, nan}
 use Rattle.lists.proofs.Tabulated.{tabulate-same}
 use Rattle.lists.proofs.Stretches.{in-part, part-length}
-use Rattle.voxels.specs.Lent.{lent, column}
+use Rattle.voxels.specs.Bookkeeping.{column}
+use Rattle.voxels.specs.Sum.{lent}
 use Rattle.voxels.proofs.Sums.{Room, room, within}
 use Rattle.voxels.proofs.Sweeping.{computed-copy, computed-sum}
 use borrow.Author.Needs.{needs}

@@ -3,7 +3,7 @@ use Prim.Native.Nat.{_+_}
 use mathlib.Core.Path.{_∙_, ap}
 use mathlib.Core.List.{List}
 use lib.Ieee.{Float}
-use Rattle.voxels.specs.Sweep.{withVoxel}
+use Rattle.voxels.specs.Bookkeeping.{withVoxel}
 use borrow.Author.Needs.{needs}
 use Rattle.voxels.proofs.sweep.put_four.Statement.{statement}
 use Rattle.voxels.proofs.sweep.put_four.Tie as tie

@@ -9,7 +9,8 @@ use lib.ListN.{length, getD}
 use lib.Ieee.{Float, nan}
 use Rattle.lists.proofs.Tabulated.{is-tabulate}
 use Rattle.voxels.specs.Sum.{sumAt}
-use Rattle.voxels.specs.Lent.{lent, column}
+use Rattle.voxels.specs.Bookkeeping.{column}
+use Rattle.voxels.specs.Sum.{lent}
 use Rattle.voxels.proofs.Sweeping.{Upto, put-block}
 use Rattle.voxels.proofs.sweep.sum_row.Statement.{statement}
 use Rattle.voxels.proofs.sweep.sum_row.Tie as tie

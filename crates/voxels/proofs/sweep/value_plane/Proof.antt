@@ -7,10 +7,10 @@ use lib.ListN.{length, take, drop}
 use lib.Ieee.{nan}
 use Rattle.lists.specs.Tabulate.{tabulate}
 use Rattle.lists.proofs.Stretches.{next, part-length, Written, none-written, stretch-within, next-written, all-written}
-use Rattle.axis.specs.declared.taps.Taps.{Taps}
-use Rattle.voxels.specs.Lent.{lent}
+use Rattle.axis.specs.declared.point.Point.{Point}
+use Rattle.voxels.specs.Sum.{lent}
 use Rattle.voxels.specs.Voxel.{tapOf}
-use Rattle.voxels.specs.Sweep.{rowValue, planeValue}
+use Rattle.voxels.specs.Bookkeeping.{rowValue, planeValue}
 use Rattle.voxels.proofs.Sweeping.{point-planes, row-filled}
 use Rattle.voxels.proofs.sweep.value_plane.Statement.{statement}
 use Rattle.voxels.proofs.sweep.value_plane.Tie as tie
@@ -50,8 +50,8 @@ is-kept-requires c κs = tt
 both-requires : tie.Need-both-requires Inv-loop μ-loop
 both-requires c κs = tt
 
-taps-at-requires : tie.Need-taps-at-requires Inv-loop μ-loop
-taps-at-requires c κs = c .before .before .before .before .before .before .before .before .before .pre .1 .1 .1 .1 .1 .1 .1 .each (c .before .before .before .loop .j) (omega arith)
+point-at-requires : tie.Need-point-at-requires Inv-loop μ-loop
+point-at-requires c κs = c .before .before .before .before .before .before .before .before .before .pre .1 .1 .1 .1 .1 .1 .1 .each (c .before .before .before .loop .j) (omega arith)
 
 mul-value-row : tie.Need-mul-value-row Inv-loop μ-loop
 mul-value-row c = omega (arith, room (c .before .before .before .before .before))
@@ -80,8 +80,8 @@ value-row-requires c κs =
     let a = s .args in
     let p = s .pre in
     let j = c .before .before .before .before .before .before .before .before .before .loop .j in
-    let taps = c .before .before .before .before .before .taps-at in
-    (p .0, (omega (arith, row-long (c .before .before .before .before .before .before .before .before), p .1 .1 .0), (p .1 .1 .1 .0, (point-planes (a .order) (a .mode) (a .ya) j (taps .result .at) (a .row) (a .plane) (a .order + 1) (p .1 .1 .1 .1 .1 .1 .1 .each j (below (c .before .before .before .before .before .before .before .before))) (ap (λ (t : Taps). t .at) (taps .ensures)) (p .1 .1 .1 .1 .0), (p .1 .1 .1 .1 .1 .0, p .1 .1 .1 .1 .1 .1 .0)))))
+    let point = c .before .before .before .before .before .point-at in
+    (p .0, (omega (arith, row-long (c .before .before .before .before .before .before .before .before), p .1 .1 .0), (p .1 .1 .1 .0, (point-planes (a .order) (a .mode) (a .ya) j (point .result .at) (a .row) (a .plane) (a .order + 1) (p .1 .1 .1 .1 .1 .1 .1 .each j (below (c .before .before .before .before .before .before .before .before))) (ap (λ (t : Point). t .at) (point .ensures)) (p .1 .1 .1 .1 .0), (p .1 .1 .1 .1 .1 .0, p .1 .1 .1 .1 .1 .1 .0)))))
 
 add-j : tie.Need-add-j Inv-loop μ-loop
 add-j c = omega (arith, below (c .before .before .before .before .before .before .before .before .before .before .before), c .before .before .before .before .before .before .before .before .before .before .before .before .before .before .before .before .before .before .pre .1 .1 .1 .1 .1 .1 .1 .short)
@@ -95,15 +95,15 @@ loop-again c =
     let l = c .before .before .before .before .before .before .before .before .before .before .before .before .loop in
     let call = c .before .before .value-row in
     let others = c .before .before .before .before .before .before .before .before .before .both in
-    let taps = c .before .before .before .before .before .before .before .before .taps-at in
+    let point = c .before .before .before .before .before .before .before .before .point-at in
     let x = lent (a .nx .now) (a .wx .now) in
-    let y = tapOf (taps .result) in
+    let y = tapOf (point .result) in
     let f = planeValue (a .order) (a .mode) (a .«data» .now) (a .plane) (a .row) (a .kept .now) (a .at .now) (a .weight .now) (a .ya) (a .width) x (a .first) in
     let v = rowValue (a .order) (a .mode) (a .«data» .now) (a .plane) (a .row) (a .kept .now) (a .at .now) (a .weight .now) x y (others .result) in
     let e : call .last .0 ≡ tabulate (a .width) v = call .ensures ∙ ap (λ (n : ℕ). tabulate n v) (row-long (c .before .before .before .before .before .before .before .before .before .before .before)) in (
       omega (arith, below (c .before .before .before .before .before .before .before .before .before .before .before)),
       next-written f nan (a .width) (a .ya .out) (l .out) (call .last .0) (l .j) (below (c .before .before .before .before .before .before .before .before .before .before .before)) (l .inv .1) (call .kept .0)
-          (row-filled (a .order) (a .mode) (a .«data» .now) (a .plane) (a .row) (a .kept .now) (a .at .now) (a .weight .now) (a .ya) (a .width) x y (a .first) (others .result) (l .j) (call .last .0) (ap (λ (t : Taps). tapOf t) (taps .ensures)) (others .ensures ∙ ap (λ (k : Bool). a .first && k) (c .before .before .before .before .before .before .before .before .before .before .is-kept .ensures)) e),
+          (row-filled (a .order) (a .mode) (a .«data» .now) (a .plane) (a .row) (a .kept .now) (a .at .now) (a .weight .now) (a .ya) (a .width) x y (a .first) (others .result) (l .j) (call .last .0) (ap (λ (t : Point). tapOf t) (point .ensures)) (others .ensures ∙ ap (λ (k : Bool). a .first && k) (c .before .before .before .before .before .before .before .before .before .before .is-kept .ensures)) e),
     )
 
 same-length : tie.Need-same-length Inv-loop μ-loop
@@ -124,7 +124,7 @@ value-plane-spec =
     loop-holds
     is-kept-requires
     both-requires
-    taps-at-requires
+    point-at-requires
     mul-value-row
     add-value-row
     mul-value-row-2

@@ -6,9 +6,9 @@ use native.Mathlib.Omega.{arith}
 use lib.ListN.{length, take, drop}
 use lib.Ieee.{nan}
 use Rattle.lists.proofs.Stretches.{next, part-length, Written, none-written, stretch-within, next-written, all-written}
-use Rattle.axis.specs.declared.taps.Taps.{Taps}
+use Rattle.axis.specs.declared.point.Point.{Point}
 use Rattle.voxels.specs.Voxel.{tapOf}
-use Rattle.voxels.specs.Sweep.{volumeValue}
+use Rattle.voxels.specs.Bookkeeping.{volumeValue}
 use Rattle.voxels.proofs.Sweeping.{point-planes, plane-filled}
 use Rattle.voxels.proofs.sweep.value_planes.Statement.{statement}
 use Rattle.voxels.proofs.sweep.value_planes.Tie as tie
@@ -56,8 +56,8 @@ loop-holds c =
 is-kept-requires : tie.Need-is-kept-requires Inv-loop μ-loop
 is-kept-requires c κs = tt
 
-taps-at-requires : tie.Need-taps-at-requires Inv-loop μ-loop
-taps-at-requires c κs = c .before .before .before .before .before .before .before .before .before .before .pre .1 .1 .1 .1 .1 .1 .1 .0 .each (c .before .before .loop .i) (below (c .before))
+point-at-requires : tie.Need-point-at-requires Inv-loop μ-loop
+point-at-requires c κs = c .before .before .before .before .before .before .before .before .before .before .pre .1 .1 .1 .1 .1 .1 .1 .0 .each (c .before .before .loop .i) (below (c .before))
 
 mul-value-plane : tie.Need-mul-value-plane Inv-loop μ-loop
 mul-value-plane c = omega (arith, room (c .before .before .before .before))
@@ -86,8 +86,8 @@ value-plane-requires c κs =
     let a = s .args in
     let p = s .pre in
     let i = c .before .before .before .before .before .before .before .before .loop .i in
-    let taps = c .before .before .before .before .before .taps-at in
-    (p .0, (plane-long (c .before .before .before .before .before .before .before), (p .1 .1 .0, (point-planes (a .order) (a .mode) (a .xa) i (taps .result .at) (a .ya .len * a .row) (length (a .«data» .now)) (a .order + 1) (p .1 .1 .1 .1 .1 .1 .1 .0 .each i (below (c .before .before .before .before .before .before .before))) (ap (λ (t : Taps). t .at) (taps .ensures)) (p .1 .1 .1 .0), (refl, (p .1 .1 .1 .1 .1 .0, (p .1 .1 .1 .1 .1 .1 .0, p .1 .1 .1 .1 .1 .1 .1 .1)))))))
+    let point = c .before .before .before .before .before .point-at in
+    (p .0, (plane-long (c .before .before .before .before .before .before .before), (p .1 .1 .0, (point-planes (a .order) (a .mode) (a .xa) i (point .result .at) (a .ya .len * a .row) (length (a .«data» .now)) (a .order + 1) (p .1 .1 .1 .1 .1 .1 .1 .0 .each i (below (c .before .before .before .before .before .before .before))) (ap (λ (t : Point). t .at) (point .ensures)) (p .1 .1 .1 .0), (refl, (p .1 .1 .1 .1 .1 .0, (p .1 .1 .1 .1 .1 .1 .0, p .1 .1 .1 .1 .1 .1 .1 .1)))))))
 
 add-i : tie.Need-add-i Inv-loop μ-loop
 add-i c = omega (arith, below (c .before .before .before .before .before .before .before .before .before .before), c .before .before .before .before .before .before .before .before .before .before .before .before .before .before .before .before .before .before .before .pre .1 .1 .1 .1 .1 .1 .1 .0 .short)
@@ -101,10 +101,10 @@ loop-again c =
     let l = c .before .before .before .before .before .before .before .before .before .before .before .loop in
     let call = c .before .before .value-plane in
     let first = c .before .before .before .before .before .before .before .before .before .is-kept in
-    let taps = c .before .before .before .before .before .before .before .before .taps-at in (
+    let point = c .before .before .before .before .before .before .before .before .point-at in (
       omega (arith, below (c .before .before .before .before .before .before .before .before .before .before)),
       next-written (volumeValue (a .order) (a .mode) (a .«data» .now) (a .ya .len * a .row) (a .row) (a .kept .now) (a .at .now) (a .weight .now) (a .xa) (a .ya) (a .width)) nan (a .ya .out * a .width) (a .xa .out) (l .out) (call .last .0) (l .i) (below (c .before .before .before .before .before .before .before .before .before .before)) (l .inv .1) (call .kept .0)
-          (plane-filled (a .order) (a .mode) (a .«data» .now) (a .ya .len * a .row) (a .row) (a .kept .now) (a .at .now) (a .weight .now) (a .ya) (a .width) (a .xa) (tapOf (taps .result)) (first .result) (l .i) (call .last .0) (ap (λ (t : Taps). tapOf t) (taps .ensures)) (first .ensures) (call .ensures)),
+          (plane-filled (a .order) (a .mode) (a .«data» .now) (a .ya .len * a .row) (a .row) (a .kept .now) (a .at .now) (a .weight .now) (a .ya) (a .width) (a .xa) (tapOf (point .result)) (first .result) (l .i) (call .last .0) (ap (λ (t : Point). tapOf t) (point .ensures)) (first .ensures) (call .ensures)),
     )
 
 same-length : tie.Need-same-length Inv-loop μ-loop
@@ -126,7 +126,7 @@ value-planes-spec =
     mul-size
     loop-holds
     is-kept-requires
-    taps-at-requires
+    point-at-requires
     mul-value-plane
     add-value-plane
     mul-value-plane-2

@@ -2,7 +2,7 @@
 use mathlib.Core.Path.{_∙_}
 use mathlib.Core.Bool.{true, false}
 use lib.ListN.{length}
-use Rattle.voxels.specs.Lent.{lent}
+use Rattle.voxels.specs.Sum.{lent}
 use Rattle.voxels.proofs.Sweeping.{row-by}
 use borrow.Author.Needs.{needs}
 use Rattle.voxels.proofs.sweep.value_row.Statement.{statement}

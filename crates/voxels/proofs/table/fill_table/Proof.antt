@@ -2,7 +2,7 @@
 use Prim.Native.Nat.{_-_, _≤_}
 use mathlib.Core.Path.{_≡_, _∙_, sym}
 use native.Mathlib.Omega.{arith}
-use Rattle.voxels.specs.Table.{Tabled}
+use Rattle.voxels.specs.Bookkeeping.{Tabled}
 use Rattle.voxels.proofs.Tables.{tabled-more}
 use Rattle.voxels.proofs.table.fill_table.Statement.{statement}
 use Rattle.voxels.proofs.table.fill_table.Tie as tie
@@ -16,8 +16,8 @@ abbrev μ-loop : tie.MeasureT-loop
 loop-holds : tie.Need-loop-holds Inv-loop μ-loop
 loop-holds c = (omega arith, c .before .before .pre .1)
 
-taps-at-requires : tie.Need-taps-at-requires Inv-loop μ-loop
-taps-at-requires c κs = c .before .before .before .before .pre .0 .each (c .before .loop .i) (omega arith)
+point-at-requires : tie.Need-point-at-requires Inv-loop μ-loop
+point-at-requires c κs = c .before .before .before .before .pre .0 .each (c .before .loop .i) (omega arith)
 
 put-places-requires : tie.Need-put-places-requires Inv-loop μ-loop
 put-places-requires c κs = (c .before .before .before .before .before .before .loop .inv .1 .long, omega (arith, c .before .before .before .before .before .before .before .before .before .pre .0 .short))
@@ -36,7 +36,7 @@ loop-again c =
     let a = c .before .before .before .before .before .before .before .before .before .before .before .before .before .before .before .before .before .args in
     let l = c .before .before .before .before .before .before .before .before .before .before .before .before .before .before .loop in
     let r = c .before .before .before .before .before .before .before .before .before .before .before .before .before .before .before .before .before .pre .0 in
-    (omega arith, tabled-more (a .order) (a .mode) (a .a) (l .i) (l .at) (c .before .before .before .before .before .before .before .put-places .last .0) (l .weight) (c .before .before .put-weights .last .0) (c .before .before .before .before .before .before .before .before .before .before .before .before .taps-at .result) (c .before .before .before .before .before .before .before .before .before .before .before .before .taps-at .ensures) (r .each (l .i) (omega arith)) (omega (arith, r .short)) (c .before .before .before .before .before .before .before .put-places .ensures) (c .before .before .put-weights .ensures) (l .inv .1))
+    (omega arith, tabled-more (a .order) (a .mode) (a .a) (l .i) (l .at) (c .before .before .before .before .before .before .before .put-places .last .0) (l .weight) (c .before .before .put-weights .last .0) (c .before .before .before .before .before .before .before .before .before .before .before .before .point-at .result) (c .before .before .before .before .before .before .before .before .before .before .before .before .point-at .ensures) (r .each (l .i) (omega arith)) (omega (arith, r .short)) (c .before .before .before .before .before .before .before .put-places .ensures) (c .before .before .put-weights .ensures) (l .inv .1))
 
 same-length : tie.Need-same-length Inv-loop μ-loop
 same-length c = c .before .loop .inv .1 .long ∙ sym (c .before .before .before .before .pre .1 .long)
@@ -56,7 +56,7 @@ fill-table-spec =
     Inv-loop
     μ-loop
     loop-holds
-    taps-at-requires
+    point-at-requires
     put-places-requires
     put-weights-requires
     add-i

@@ -3,7 +3,7 @@ use Prim.Native.Nat.{_-_, _≤_}
 use mathlib.Core.Path.{_≡_, _∙_}
 use native.Mathlib.Omega.{arith}
 use borrow.Author.Needs.{needs}
-use Rattle.voxels.specs.Table.{Column}
+use Rattle.voxels.specs.Bookkeeping.{Column}
 use Rattle.voxels.proofs.Tables.{column-none, column-more}
 use Rattle.voxels.proofs.table.put_places.Statement.{statement}
 use Rattle.voxels.proofs.table.put_places.Tie as tie

@@ -4,7 +4,7 @@ use mathlib.Core.Path.{_≡_, _∙_}
 use native.Mathlib.Omega.{arith}
 use borrow.Author.Needs.{needs}
 use lib.Ieee.{nan}
-use Rattle.voxels.specs.Table.{Column}
+use Rattle.voxels.specs.Bookkeeping.{Column}
 use Rattle.voxels.proofs.Tables.{column-none, column-more}
 use Rattle.voxels.proofs.table.put_weights.Statement.{statement}
 use Rattle.voxels.proofs.table.put_weights.Tie as tie

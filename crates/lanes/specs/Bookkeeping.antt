@@ -5,13 +5,14 @@ use mathlib.Core.Logic.{_⊎_}
 use mathlib.Core.List.{List}
 use lib.ListN.{length}
 use lib.Ieee.{Float}
+use Rattle.limits.specs.Limits.{longestPadded}
 use Rattle.lane.specs.Lane.{at}
 use Rattle.lanes.specs.Along.{laneOf}
 
 -- lanes of n numbers fill a buffer: side by side, as those of an axis whose numbers lie in different rows or planes, or end to end, as rows
 pub record Grid (lanes n step stride count : ℕ) : Type 0 where
   pub least : 2 ≤ n
-  pub most : n ≤ 4120
+  pub most : n ≤ longestPadded
   pub some : 1 ≤ lanes
   pub all : count ≡ lanes * n
   pub lie : ((step ≡ 1) × (stride ≡ lanes)) ⊎ ((step ≡ n) × (stride ≡ 1))

@@ -1,4 +1,4 @@
--- `axis::taps::kept_taps` meets its contract.
+-- `axis::point::kept_point` meets its contract.
 use mathlib.Core.Path.{_≡_, sym, _∙_}
 use mathlib.Core.Logic.{⊎-elim}
 use mathlib.Core.Bool.{false, _&&_}
@@ -6,8 +6,8 @@ use lib.Dec.{eqb}
 use lib.Ieee.{ofBits, ofInt}
 use Rattle.axis.specs.Neighbours.{outside}
 use Rattle.axis.proofs.Points.{not-outside, not-order-zero, kept-outside, kept-inside, kept-asks}
-use Rattle.axis.proofs.taps.kept_taps.Statement.{statement}
-use Rattle.axis.proofs.taps.kept_taps.Tie as tie
+use Rattle.axis.proofs.point.kept_point.Statement.{statement}
+use Rattle.axis.proofs.point.kept_point.Tie as tie
 
 first-neighbour-requires : tie.Need-first-neighbour-requires
 first-neighbour-requires c κs = tt
@@ -33,8 +33,8 @@ neighbours-from-requires c κs = let p = c .before .before .before .before .pre 
 returns-2 : tie.Need-returns-2
 returns-2 c = let a = c .before .before .before .before .before .args in kept-inside (a .order) (a .mode) (a .len) (a .to) (c .before .before .before .before .first-neighbour .ensures) (not-beside (c .before .before)) (c .before .build-splines .ensures) (c .neighbours-from .ensures)
 
-pub kept-taps-spec : {M : Type 1} → statement M
-kept-taps-spec =
+pub kept-point-spec : {M : Type 1} → statement M
+kept-point-spec =
     tie.close
     (tie.spec
     first-neighbour-requires

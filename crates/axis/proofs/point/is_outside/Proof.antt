@@ -1,10 +1,10 @@
--- `axis::taps::is_outside` meets its contract.
+-- `axis::point::is_outside` meets its contract.
 use lib.Ieee.{ofBits, ofInt}
 use Rattle.axis.proofs.Points.{outside-beyond}
 use Rattle.exact.proofs.Literals.{zero-bits}
 use borrow.Author.Needs.{needs}
-use Rattle.axis.proofs.taps.is_outside.Statement.{statement}
-use Rattle.axis.proofs.taps.is_outside.Tie as tie
+use Rattle.axis.proofs.point.is_outside.Statement.{statement}
+use Rattle.axis.proofs.point.is_outside.Tie as tie
 
 returns : tie.Need-returns
 returns c = simp (zero-bits, c .if1 .taken)

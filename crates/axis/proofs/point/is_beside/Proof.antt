@@ -1,10 +1,10 @@
--- `axis::taps::is_beside` meets its contract.
+-- `axis::point::is_beside` meets its contract.
 use mathlib.Core.Path.{_∙_}
 use lib.Ieee.{ofBits, ofInt}
 use Rattle.axis.proofs.Points.{beside-by, dropped-by}
 use borrow.Author.Needs.{needs}
-use Rattle.axis.proofs.taps.is_beside.Statement.{statement}
-use Rattle.axis.proofs.taps.is_beside.Tie as tie
+use Rattle.axis.proofs.point.is_beside.Statement.{statement}
+use Rattle.axis.proofs.point.is_beside.Tie as tie
 
 settled-at-requires : tie.Need-settled-at-requires
 settled-at-requires c κs = search needs

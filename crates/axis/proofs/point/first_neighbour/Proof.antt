@@ -1,9 +1,9 @@
--- `axis::taps::first_neighbour` meets its contract.
+-- `axis::point::first_neighbour` meets its contract.
 use Rattle.exact.specs.Rounded.{_⊖_}
 use Rattle.axis.specs.Neighbours.{firstNeighbour}
 use borrow.Author.Needs.{needs}
-use Rattle.axis.proofs.taps.first_neighbour.Statement.{statement}
-use Rattle.axis.proofs.taps.first_neighbour.Tie as tie
+use Rattle.axis.proofs.point.first_neighbour.Statement.{statement}
+use Rattle.axis.proofs.point.first_neighbour.Tie as tie
 
 base-of-requires : tie.Need-base-of-requires
 base-of-requires c κs = search needs

@@ -1,4 +1,4 @@
--- `axis::taps::some_beside` meets its contract: no index passed so far lies beside the axis.
+-- `axis::point::some_beside` meets its contract: no index passed so far lies beside the axis.
 use Prim.Native.Nat.{ℕ, _-_, _≤_, _<_}
 use mathlib.Core.Path.{_≡_, sym, _∙_}
 use mathlib.Core.Bool.{true, true≢false}
@@ -7,8 +7,8 @@ use native.Mathlib.Omega.{arith}
 use borrow.Author.Count.{below-more}
 use Rattle.axis.specs.Point.{besideAt}
 use Rattle.axis.proofs.Points.{beside-mark, mark-beside}
-use Rattle.axis.proofs.taps.some_beside.Statement.{statement}
-use Rattle.axis.proofs.taps.some_beside.Tie as tie
+use Rattle.axis.proofs.point.some_beside.Statement.{statement}
+use Rattle.axis.proofs.point.some_beside.Tie as tie
 
 abbrev Inv-loop : tie.InvT-loop
 Inv-loop a mode n i₀ i = (i ≤ n) × ((j : ℕ) → j < i → besideAt mode a j ≡ true → ⊥)

@@ -2,8 +2,10 @@
 ghost use mathlib.Core.Path.{_≡_};
 ghost use mathlib.Core.Bool.{true, false};
 ghost use Prim.Native.Nat.{ℕ, _≤_, _<_};
-ghost use Rattle.axis.specs.Neighbours.{firstNeighbour, outside, neighbourMode, neighbour, neighbourIndex, Indexes};
-ghost use Rattle.axis.specs.Point.{pointAt, keptPoint, neighbours, besideAt, Reached, Kept};
+ghost use Rattle.axis.specs.Neighbours.{firstNeighbour, outside, splineMode, neighbour, neighbourIndex};
+ghost use Rattle.axis.specs.Bookkeeping.{Indexes};
+ghost use Rattle.axis.specs.Point.{pointAt, keptPoint, neighbours, besideAt};
+ghost use Rattle.axis.specs.Bookkeeping.{Reached, Kept};
 use crate::coordinate::Axis;
 use crate::coordinate::float_of;
 use crate::coordinate::settled_at;
@@ -13,29 +15,29 @@ use border::BorderMode;
 use border::map_coordinates;
 
 // Mark 0: kept, with weights and neighbours. 1: dropped. 2: kept at order 0, but outside.
-pub struct Taps {
+pub struct Point {
     pub mark: u8,
     pub weight: [f64; 6],
     pub at: [usize; 6],
 }
 
 // What an output index of an axis reads.
-pub fn taps_at(a: Axis, i: usize, order: usize, mode: BorderMode) -> Taps
+pub fn point_at(a: Axis, i: usize, order: usize, mode: BorderMode) -> Point
     requires { ⌜ Reached order a i ⌝ }
     ensures { λ r. ⌜ r ≡ pointAt order mode a i ⌝ }
 {
     let to = settled_at(a, i, mode);
     if to > -1.0 {
-        return kept_taps(to, a.len, order, mode);
+        return kept_point(to, a.len, order, mode);
     }
-    Taps {
+    Point {
         mark: 1,
         weight: [0.0; 6],
         at: [0; 6],
     }
 }
 
-fn kept_taps(to: f64, len: usize, order: usize, mode: BorderMode) -> Taps
+fn kept_point(to: f64, len: usize, order: usize, mode: BorderMode) -> Point
     requires { ⌜ Kept order len to ⌝ }
     ensures { λ r. ⌜ r ≡ keptPoint order mode len to ⌝ }
 {
@@ -43,7 +45,7 @@ fn kept_taps(to: f64, len: usize, order: usize, mode: BorderMode) -> Taps
     let out = is_outside(first, len, order);
     if order == 0 {
         if out {
-            return Taps {
+            return Point {
                 mark: 2,
                 weight: [0.0; 6],
                 at: [0; 6],
@@ -52,7 +54,7 @@ fn kept_taps(to: f64, len: usize, order: usize, mode: BorderMode) -> Taps
     }
     let weight = build_splines(to, order);
     let at = neighbours_from(first, out, len, order, mode);
-    Taps {
+    Point {
         mark: 0,
         weight,
         at,
@@ -77,7 +79,7 @@ fn is_outside(first: f64, len: usize, order: usize) -> bool
 
 // The mode that folds the neighbours: Constant and Wrap have no fold of their own there.
 fn spline_mode(mode: BorderMode) -> BorderMode
-    ensures { λ r. ⌜ r ≡ neighbourMode mode ⌝ }
+    ensures { λ r. ⌜ r ≡ splineMode mode ⌝ }
 {
     match mode {
         BorderMode::Constant(_) => BorderMode::Mirror,

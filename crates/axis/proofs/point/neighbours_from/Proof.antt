@@ -1,12 +1,12 @@
--- `axis::taps::neighbours_from` meets its contract: the places filled so far hold the neighbours, and the rest 0.
+-- `axis::point::neighbours_from` meets its contract: the places filled so far hold the neighbours, and the rest 0.
 use Prim.Native.Nat.{_+_, _-_, _≤_}
 use mathlib.Core.Path.{_≡_, _∙_, subst}
 use mathlib.Core.Bool.{Bool}
 use native.Mathlib.Omega.{arith}
 use borrow.Author.Tests.{le-leb}
 use Rattle.axis.proofs.Points.{placeOf, Placed, placed-none, placed-more, placed-all}
-use Rattle.axis.proofs.taps.neighbours_from.Statement.{statement}
-use Rattle.axis.proofs.taps.neighbours_from.Tie as tie
+use Rattle.axis.proofs.point.neighbours_from.Statement.{statement}
+use Rattle.axis.proofs.point.neighbours_from.Tie as tie
 
 abbrev Inv-loop : tie.InvT-loop
 Inv-loop first out len order mode at₀ k₀ at k = (k ≤ order + 1) × Placed (placeOf mode out order len first) at k

@@ -1,12 +1,13 @@
--- `axis::taps::neighbour_at` meets its contract.
+-- `axis::point::neighbour_at` meets its contract.
 use mathlib.Core.Path.{_≡_, sym, _∙_, ap, subst}
 use lib.Ieee.{Float, toUnsigned}
 use Rattle.exact.specs.Rounded.{_⊕_}
-use Rattle.axis.specs.Neighbours.{neighbour, neighbourIndex, Indexes}
+use Rattle.axis.specs.Neighbours.{neighbour, neighbourIndex}
+use Rattle.axis.specs.Bookkeeping.{Indexes}
 use Rattle.axis.proofs.Points.{folded, plain}
 use borrow.Author.Needs.{needs}
-use Rattle.axis.proofs.taps.neighbour_at.Statement.{statement}
-use Rattle.axis.proofs.taps.neighbour_at.Tie as tie
+use Rattle.axis.proofs.point.neighbour_at.Statement.{statement}
+use Rattle.axis.proofs.point.neighbour_at.Tie as tie
 
 float-of-requires : tie.Need-float-of-requires
 float-of-requires c κs = search needs

@@ -1,0 +1,36 @@
+-- What the functions of this crate ask: the numbers that an admitted request can have.
+use Prim.Native.Nat.{ℕ, _≤_}
+use lib.IntN.{pos}
+use mathlib.Core.Bool.{true, false}
+use lib.Dec.{T}
+use lib.Ieee.{Float, fin, lt, le}
+use Rattle.exact.specs.Rounded.{num}
+use Rattle.exact.specs.Within.{Within}
+use Rattle.limits.specs.Limits.{longest, longestPadded}
+use Rattle.axis.specs.declared.coordinate.Axis.{Axis}
+use Rattle.axis.specs.Coordinate.{coordinate, kept}
+
+-- what refusals 3 and 4 let pass: a length up to 4,096, and a factor above 0 and up to 4,096
+pub record Zooms (length : ℕ) (factor : Float) : Type 0 where
+  pub short : length ≤ longest
+  pub above : T (lt (num 0) factor)
+  pub most : T (le factor (num 4096))
+
+-- x can be cut to an index: it is above -1 and below 2^64
+abbrev pub Indexes : Float → Type 0
+Indexes x = T (lt (fin true 1 (pos 0)) x) × T (lt x (fin false 1 (pos 64)))
+
+-- an order, an axis and an output index that an admitted request can have
+pub record Reached (order : ℕ) (a : Axis) (i : ℕ) : Type 0 where
+  pub upto : order ≤ 5
+  pub least : 2 ≤ a .len
+  pub most : a .len ≤ longestPadded
+  pub bound : Within 26 (coordinate a i)
+
+-- and a coordinate that is kept there
+pub record Kept (order len : ℕ) (to : Float) : Type 0 where
+  pub upto : order ≤ 5
+  pub least : 2 ≤ len
+  pub most : len ≤ longestPadded
+  pub bound : Within 30 to
+  pub above : T (kept to)

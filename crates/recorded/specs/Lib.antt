@@ -1,0 +1,2 @@
+-- The code's own bookkeeping. No promise speaks of it.
+pub mod Bookkeeping

@@ -1,0 +1,30 @@
+-- What the engine asks of a request that no refusal met.
+use Prim.Native.Nat.{ℕ, _*_, _≤_}
+use mathlib.Core.Path.{_≡_}
+use Rattle.limits.specs.Limits.{longestPadded}
+use Rattle.prefilter.specs.Volume.{countOf}
+use Rattle.request.specs.declared.Axes.{Axes}
+use Rattle.request.specs.declared.Request.{Request}
+use Rattle.request.specs.Sizes.{sourceDims, needed}
+use Rattle.request.specs.Bookkeeping.{Lengths}
+use Rattle.voxels.specs.Bookkeeping.{Reaches}
+
+-- the numbers are the lengths of input and output
+pub record Admitted (r : Request) (a : Axes) (input output : ℕ) : Type 0 where
+  pub order : r .order ≤ 5
+  pub lengths : Lengths (r .dims)
+  pub all : input ≡ countOf (r .dims)
+  pub values : output ≡ a .x .out * (a .y .out * a .z .out)
+  pub some : 1 ≤ a .z .out
+  pub x : Reaches (r .order) (a .x)
+  pub y : Reaches (r .order) (a .y)
+  pub z : Reaches (r .order) (a .z)
+  pub long : countOf (sourceDims r) ≡ a .x .len * (a .y .len * a .z .len)
+  pub rows : a .y .len ≤ longestPadded
+  pub row : a .z .len ≤ longestPadded
+
+-- and of the lengths of all four buffers
+pub record Passes (r : Request) (a : Axes) (input output coverage work : ℕ) : Type 0 where
+  pub admitted : Admitted r a input output
+  pub codes : coverage ≡ a .x .out * (a .y .out * a .z .out)
+  pub room : needed r ≤ work
