@@ -1,4 +1,5 @@
 -- Poles, gain and powers.
 pub mod Poles
 pub mod Roots
+pub mod Decimals
 pub mod Power
