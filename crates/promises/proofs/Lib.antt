@@ -1,5 +1,6 @@
 -- The promises: of every call, of zoom, and demand 3.
 pub mod Identical
+pub mod Powers
 pub mod Given
 pub mod Limits
 pub mod Refused
