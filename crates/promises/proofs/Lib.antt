@@ -8,6 +8,7 @@ pub mod Succeeding
 pub mod Places
 pub mod Marked
 pub mod Counted
+pub mod Working
 pub mod Spread
 pub mod Zooming
 pub mod OneVoxel
