@@ -1,4 +1,4 @@
--- "Weights follow `build_splines`, associated as printed", but for its two powers: the Rust prints `(0.5 - x).powi(2)` at order 2 and `(0.5 - x).powi(4)` at order 4, where the definition prints squares. They are the same, bit for bit.
+-- "Weights follow `build_splines`, associated as printed", but for its two powers: the Rust prints `(0.5 - x).powi(2)` at order 2 and `(0.5 - x).powi(4)` at order 4, where the definition prints squares. They are the same float, of every x.
 use mathlib.Core.Path.{_≡_, sym, ap}
 use mathlib.Core.List.{[], _∷_}
 use lib.Ieee.{Float, binary64}
