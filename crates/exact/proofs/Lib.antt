@@ -10,6 +10,7 @@ pub mod Bounds
 pub mod Quotients
 pub mod Unique
 pub mod Weights
+pub mod Ones
 pub mod Withins
 pub mod Modulo
 pub mod Casts

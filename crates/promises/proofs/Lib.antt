@@ -1,5 +1,6 @@
 -- The promises: of every call, of zoom, and demand 3.
 pub mod Identical
+pub mod Powers
 pub mod Given
 pub mod Limits
 pub mod Refused
@@ -7,6 +8,7 @@ pub mod Succeeding
 pub mod Places
 pub mod Marked
 pub mod Counted
+pub mod Working
 pub mod Spread
 pub mod Zooming
 pub mod OneVoxel

@@ -3,6 +3,7 @@ pub mod Entries
 pub mod Given
 pub mod Limits
 pub mod Place
+pub mod Work
 pub mod Marks
 pub mod Moves
 pub mod Stays
