@@ -1,4 +1,4 @@
--- "Poles are stored with the bits that the oracle's build computes. In source order they are near -0.171573; -0.267949; -0.361341, -0.013725; -0.430575, -0.043096. The mirror start's cut-off counts are 19; 25; 33, 7; 40, 10."
+-- "Poles are stored with the bits that the oracle's build computes. The mirror start's cut-off counts are 19; 25; 33, 7; 40, 10."
 use Prim.Native.Nat.{ℕ}
 use mathlib.Core.Bool.{cond}
 use mathlib.Core.List.{List, [], _∷_}

@@ -6,7 +6,7 @@ use mathlib.Core.Logic.{dite}
 use mathlib.Core.Bool.{Bool, true, false, true≢false}
 use mathlib.Core.List.{List, _++_}
 use native.Mathlib.Decide.{ℕ-discrete}
-use lib.ListN.{length, getD, drop, length-append, length-drop, List·getD-append}
+use lib.ListN.{length, getD, drop, length-append, length-drop}
 use lib.Seq.{getD-append-add, getD-drop, take-at}
 use lib.Ieee.{Float, nan}
 use Rattle.lists.proofs.Tabulated.{length-tabulate}
@@ -58,7 +58,7 @@ module _ (r : Request) (input work : List Float) (all : length input ≡ countOf
       let n = coefficients-long r input all f in
       let c = coefficients r input in
       subst (λ (w : List Float). WorkFiltered r input work w) (work-begins r input work f refl refl) (record {
-        begins = λ _. record { count = n; front = take-at c _ (needed r) n; each = λ m l. List·getD-append c _ nan m (omega (arith, l, n)) };
+        begins = λ _. record { count = n; front = take-at c _ (needed r) n };
         rest = over-rest c work n room;
         long = over-long c work n room;
         unfiltered = λ g. absurd (true≢false (sym f ∙ g));

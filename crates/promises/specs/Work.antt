@@ -1,5 +1,5 @@
 -- "Work then begins with the filtered coefficients (needed count); the rest is untouched." What it says of work before and after a success.
-use Prim.Native.Nat.{ℕ, _≤_, _<_}
+use Prim.Native.Nat.{ℕ, _≤_}
 use mathlib.Core.Path.{_≡_}
 use mathlib.Core.Bool.{true, false}
 use mathlib.Core.List.{List}
@@ -13,7 +13,6 @@ use Rattle.resample.specs.Call.{coefficients}
 pub record Begins (r : Request) (input after : List Float) : Type 0 where
   pub count : length (coefficients r input) ≡ needed r
   pub front : take (needed r) after ≡ coefficients r input
-  pub each : (m : ℕ) → m < needed r → getD after m nan ≡ getD (coefficients r input) m nan
 
 pub record WorkFiltered (r : Request) (input before after : List Float) : Type 0 where
   pub begins : filters r ≡ true → Begins r input after
