@@ -16,7 +16,7 @@ use poles::filter_gain;
 use poles::get_filter_poles;
 
 // Whether the lane filter has the reflect starts.
-fn has_reflect_starts(mode: BorderMode) -> bool
+fn reflects(mode: BorderMode) -> bool
     ensures { λ r. ⌜ r ≡ reflects mode ⌝ }
 {
     match mode {
@@ -80,7 +80,7 @@ pub fn filter_axis(data: &mut [f64], dims: [usize; 3], axis: usize, order: usize
 {
     let p = get_filter_poles(order);
     let gain = filter_gain(p);
-    let reflect = has_reflect_starts(mode);
+    let reflect = reflects(mode);
     let plane = dims[1] * dims[2];
     match axis {
         // these lanes cross the planes

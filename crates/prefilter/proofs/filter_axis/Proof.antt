@@ -15,19 +15,19 @@ use Rattle.prefilter.proofs.filter_axis.Statement.{statement}
 use Rattle.prefilter.proofs.filter_axis.Tie as tie
 
 -- ---- where the arms part
-abbrev start : tie.After-has-reflect-starts → tie.Start
+abbrev start : tie.After-reflects → tie.Start
 start c = c .before .before .before .before
 
-sound : (c : tie.After-has-reflect-starts) → Sound (c .before .before .get-filter-poles .result)
+sound : (c : tie.After-reflects) → Sound (c .before .before .get-filter-poles .result)
 sound c = c .before .before .get-filter-poles .ensures .0
 
-along : (c : tie.After-has-reflect-starts) (known : ℕ) (ys : List Float) → let a = start c .args in
+along : (c : tie.After-reflects) (known : ℕ) (ys : List Float) → let a = start c .args in
     a .axis ≡ known →
-    ys ≡ filterAlong (filterLane (c .has-reflect-starts .result) (polesIn (c .before .before .get-filter-poles .result)) (c .before .filter-gain .result)) (lengthOf known (a .t2)) (strideOf known (a .t2)) (a .«data» .now) →
+    ys ≡ filterAlong (filterLane (c .reflects .result) (polesIn (c .before .before .get-filter-poles .result)) (c .before .filter-gain .result)) (lengthOf known (a .t2)) (strideOf known (a .t2)) (a .«data» .now) →
     ys ≡ filterAxis (a .mode) (a .order) (a .t2) (a .axis) (a .«data» .now)
 along c known ys e h =
     let a = start c .args in
-    along-axis (a .mode) (a .order) (a .t2) (a .«data» .now) e (c .has-reflect-starts .ensures) (c .before .before .get-filter-poles .ensures .1) (c .before .filter-gain .ensures) h
+    along-axis (a .mode) (a .order) (a .t2) (a .«data» .now) e (c .reflects .ensures) (c .before .before .get-filter-poles .ensures .1) (c .before .filter-gain .ensures) h
 
 get-filter-poles-requires : tie.Need-get-filter-poles-requires
 get-filter-poles-requires c κs = search needs
@@ -35,8 +35,8 @@ get-filter-poles-requires c κs = search needs
 filter-gain-requires : tie.Need-filter-gain-requires
 filter-gain-requires c κs = search needs
 
-has-reflect-starts-requires : tie.Need-has-reflect-starts-requires
-has-reflect-starts-requires c κs = search needs
+reflects-requires : tie.Need-reflects-requires
+reflects-requires c κs = search needs
 
 array-read-plane : tie.Need-array-read-plane
 array-read-plane c = search needs
@@ -116,7 +116,7 @@ filter-axis-spec =
     (tie.spec
     get-filter-poles-requires
     filter-gain-requires
-    has-reflect-starts-requires
+    reflects-requires
     array-read-plane
     array-read-plane-2
     mul-plane
