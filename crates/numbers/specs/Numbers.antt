@@ -16,7 +16,7 @@ use Rattle.coverage.specs.Coverage.{none}
 abbrev pub isMode : ℕ → Bool
 isMode mode = ltb mode 5
 
--- of the five numbers: of another it is never requests
+-- of the five numbers: of another it is never asked
 unfoldable pub modeOf : ℕ → Float → BorderMode
 modeOf mode fill =
     cond (eqb mode 0) (Constant fill)

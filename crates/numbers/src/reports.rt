@@ -1,4 +1,4 @@
-// What a caller is reports: a number, and counts.
+// What a caller is told: a number, and counts.
 ghost use mathlib.Core.Path.{_≡_};
 ghost use lib.ListN.{length};
 ghost use Rattle.resample.specs.Call.{numberIn, countsIn};
