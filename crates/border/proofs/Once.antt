@@ -122,7 +122,7 @@ module _ (L : ℕ) (n : ℤ) (least : 2 ≤ L) where
   wrap-last : Apart (L - 1) n (pos 0) → Apart (L - 1) n (pos (L - 1))
   wrap-last h = subst (λ (m : ℕ). Apart (L - 1) n (pos m)) (sub-zero (L - 1)) (flipped {i = 0} (omega arith) h)
 
-  wrap-rest : (i : ℕ) → Stands Wrap L n i → (modZ n (L - 1) ≡ i) ⊎ ((i ≡ L - 1) × (modZ n (L - 1) ≡ 0))
+  pub wrap-rest : (i : ℕ) → Stands Wrap L n i → (modZ n (L - 1) ≡ i) ⊎ ((i ≡ L - 1) × (modZ n (L - 1) ≡ 0))
   wrap-rest i s =
       let v = s .voxel in
       sides i (L - 1) (λ l. inl (own-rest l (s .rule)))
