@@ -19,3 +19,4 @@ pub mod Above
 pub mod Nans
 pub mod Halves
 pub mod Upto
+pub mod Middles
