@@ -20,3 +20,4 @@ pub mod Nans
 pub mod Halves
 pub mod Upto
 pub mod Middles
+pub mod Over
