@@ -19,5 +19,6 @@ pub mod Above
 pub mod Nans
 pub mod Halves
 pub mod Upto
-pub mod Middles
 pub mod Over
+pub mod Middles
+pub mod MinusOne

@@ -1,36 +1,33 @@
 -- A fraction below the middle between a float and the next one does not round past that float. So the quotient of a float a by a whole number p, with a below kp for a whole k, stays below k: its floor is exact.
 use mathlib.Core.Path.{_≡_, refl, sym, ap, _∙_, subst}
-use mathlib.Core.Logic.{_⊎_, inl, inr, dite}
-use Prim.Native.Nat.{ℕ, zero, suc, _+_, _-_, _*_, _/_, _%_, _^_, _≤_, _<_, compare}
-use native.Mathlib.Nat.{mul-one, one-mul, mul-assoc, mul-comm, mul-right-comm, suc-mul, add-mul, pow-suc, zero-lt-suc, le-refl, le-trans, le-of-eq, le-of-lt, lt-of-le-of-lt, lt-of-lt-of-le, lt-of-not-le, not-le-of-lt, div-add-mod', div-mul-le-self, le-div-iff-mul-le, div-lt-iff-lt-mul, mul-pos, mul-le-mul-left, mul-le-mul-right, mul-lt-mul-of-pos-right, lt-of-mul-lt-mul-right, le-of-mul-le-mul-right, eq-of-mul-eq-mul-right}
+use mathlib.Core.Logic.{dite, _⊎_, inl, inr}
+use Prim.Native.Nat.{ℕ, zero, suc, _+_, _-_, _*_, _/_, _^_, _≤_, _<_, _%_, compare}
+use native.Mathlib.Nat.{mul-one, one-mul, mul-assoc, mul-comm, mul-right-comm, zero-lt-suc, le-refl, le-trans, le-of-eq, le-of-lt, lt-of-le-of-lt, lt-of-lt-of-le, mul-pos, mul-lt-mul-of-pos-right, mul-le-mul-left, mul-le-mul-right, lt-of-mul-lt-mul-right, suc-mul, add-mul, pow-suc, lt-of-not-le, not-le-of-lt, div-add-mod', div-mul-le-self, le-div-iff-mul-le, div-lt-iff-lt-mul}
 use native.Mathlib.Decide.{decLe, decLt}
 use native.Mathlib.Omega.{arith}
-use mathlib.Core.Bool.{Bool, true, false}
-use lib.IntN.{ℤ, pos}
-use lib.Dec.{T, lit≤, lit<}
+use mathlib.Core.Bool.{Bool, true, false, true≢false}
+use lib.IntN.{pos}
+use lib.Dec.{lit≤}
 use lib.Pow.{pow-pos, pow-mono, pow-add, shl-lt}
-use lib.Ieee.{Float, nan, inf, fin, binary64, up, down, size, nearest, units, round}
-use lib.Ieee.Digits.{size-lt, size-le, size-reaches}
+use lib.Ieee.{Float, nan, inf, fin, binary64, up, down, below, round, lt, size, nearest, units}
 use lib.Ieee.Exact.{HasValue, units-val}
 use lib.Ieee.Fits.{down-pos, core, round-is, round-fits}
-use lib.Ieee.Nearest.{closest}
 use lib.Ieee.Back.{round-whole}
-use Rattle.exact.specs.Whole.{W}
+use borrow.Author.Tests.{lt-ltb}
+use Rattle.exact.specs.Rounded.{_⊘_, num}
+use Rattle.exact.specs.Whole.{Is, W}
 use Rattle.exact.specs.Floor.{floorF}
-use Rattle.exact.proofs.Bounds.{AtMost, round-signed, round-neg, neg-at-most, round-at-most, round-at-least}
+use Rattle.exact.proofs.Value.{div-val, lt-val}
+use Rattle.exact.proofs.Whole.{W-val}
+use Rattle.exact.proofs.Is.{is-value}
+use Rattle.exact.proofs.Bounds.{AtMost, HasSign, round-signed, round-at-most, round-at-least}
 use Rattle.exact.proofs.Quotients.{dyadic, quotient, range-up}
+use lib.Ieee.Digits.{size-lt, size-le, size-reaches}
+use lib.Ieee.Nearest.{closest}
 use Rattle.exact.proofs.Rounds.{nearest-lower}
+use Rattle.exact.proofs.Over.{Over, rescaled}
 
--- ---- from one fraction to another of the same size
-pub rescaled : (x : Float) (s : Bool) (a c b d : ℕ) → 0 < c → a * d ≡ b * c → HasValue x s a c → HasValue x s b d
-rescaled nan s a c b d C e v = v
-rescaled (inf t) s a c b d C e v = v
-rescaled (fin t m x) s a c b d C e v = (
-  v .0,
-  eq-of-mul-eq-mul-right c C (m * up x * d) (b * down x)
-      (mul-right-comm (m * up x) d c ∙ ap (λ (z : ℕ). z * d) (v .1) ∙ mul-right-comm a (down x) d ∙ ap (λ (z : ℕ). z * down x) e ∙ mul-right-comm b c (down x)),
-)
-
+-- ---- a float by its value
 at-most-value : (x : Float) (s : Bool) (a c : ℕ) → HasValue x s a c → AtMost x a c
 at-most-value nan s a c v = v
 at-most-value (inf t) s a c v = v
@@ -136,13 +133,13 @@ through u a G G' H R p Z Y x y =
     (lt-of-lt-of-le (mul-lt-mul-of-pos-right y Y) (le-of-eq (mul-assoc R (p * G') G ∙ ap (λ (z : ℕ). R * z) (mul-right-comm p G' G) ∙ sym (mul-assoc R (p * G) G')))))
 
 -- ---- the quotient of u / 2 ^ g by p is at most the float c / 2 ^ h next below k
-record Below (n d k : ℕ) : Type 0 where
-  c : ℕ
-  h : ℕ
-  less : c < k * 2 ^ h
-  most : AtMost (round binary64 false n d) c (2 ^ h)
+pub record Below (n d k : ℕ) : Type 0 where
+  pub c : ℕ
+  pub h : ℕ
+  pub less : c < k * 2 ^ h
+  pub most : AtMost (round binary64 false n d) c (2 ^ h)
 
-quotient-below : (u g p k : ℕ) → u < 2 ^ 53 → u < k * p * 2 ^ g → 0 < p → 0 < k → k * p ≤ 2 ^ 53 → Below u (p * 2 ^ g) k
+pub quotient-below : (u g p k : ℕ) → u < 2 ^ 53 → u < k * p * 2 ^ g → 0 < p → 0 < k → k * p ≤ 2 ^ 53 → Below u (p * 2 ^ g) k
 quotient-below u g p k S l P K M =
     let s = scaled (k * p) (mul-pos K P) M in
     let t = scaled k K (le-trans (le-trans (le-of-eq (sym (mul-one k))) (mul-le-mul-left k P)) M) in
@@ -186,3 +183,30 @@ floor-round-quotient u g p S P M =
     let Q : q ≤ 2 ^ 53 = le-of-lt (le-trans (le-trans (le-of-eq (sym (mul-one (suc q)))) (mul-le-mul-left (suc q) P)) M) in
     range-up (round binary64 false u d) q (b .c) (2 ^ b .h) (round-signed binary64 false u d) (round-fits binary64 false u d) Q (pow-pos (b .h)) (b .less)
     (round-at-least binary64 false u d q 1 D (zero-lt-suc 0) (le-trans (div-mul-le-self u d) (le-of-eq (sym (mul-one u)))) (round-whole binary64 false q Q)) (b .most)
+
+-- ---- a quotient by a whole number p, its floor, and the multiple of p
+module _ (g : ℕ) {a p : Float} {u P : ℕ} (h : Over (2 ^ g) a false u) (short : u < 2 ^ 53) (k : Is p (pos P)) (some : 0 < P) where
+  quotient-is : a ⊘ p ≡ round binary64 false u (P * 2 ^ g)
+  quotient-is =
+      div-val binary64 a p false false u (2 ^ g) P 1 (pow-pos g) (zero-lt-suc 0) some (h .value) (is-value k some)
+      ∙ ap (λ (n : ℕ). round binary64 false n (P * 2 ^ g)) (mul-one u)
+
+  -- where a is below np, the rounded quotient is below n: it does not round up to n
+  pub quotient-stays-below : (n : ℕ) → 0 < n → n * P ≤ 2 ^ 53 → u < n * P * 2 ^ g → lt (a ⊘ p) (num n) ≡ true
+  quotient-stays-below n N M l =
+      let b = quotient-below u g P n short l some N M in
+      let Q = round binary64 false u (P * 2 ^ g) in
+      ap (λ (x : Float). lt x (num n)) quotient-is
+      ∙ less Q (num n) (b .c) (2 ^ b .h) n (round-signed binary64 false u (P * 2 ^ g)) (b .most) (b .less) (W-val (pos n) (le-trans (le-trans (le-of-eq (sym (mul-one n))) (mul-le-mul-left n some)) M))
+    where
+      less : (x y : Float) (a c n : ℕ) → HasSign false x → AtMost x a c → a < n * c → HasValue y false n 1 → lt x y ≡ true
+      less nan y a c n s h l v = absurd h
+      less (inf t) y a c n s h l v = absurd h
+      less (fin true m e) y a c n s h l v = absurd (true≢false s)
+      less (fin false m e) y a c n s h l v =
+          lt-val (fin false m e) y false false (m * up e) (down e) n 1 (down-pos e) (zero-lt-suc 0) (refl, refl) v
+          ∙ lt-ltb (m * up e * 1) (n * down e)
+          (lt-of-mul-lt-mul-right c (lt-of-le-of-lt (le-trans (le-of-eq (ap (λ (z : ℕ). z * c) (mul-one (m * up e)))) h) (lt-of-lt-of-le (mul-lt-mul-of-pos-right l (down-pos e)) (le-of-eq (mul-right-comm n c (down e))))))
+
+  pub floor-over : suc (u / (P * 2 ^ g)) * P ≤ 2 ^ 53 → floorF (a ⊘ p) ≡ num (u / (P * 2 ^ g))
+  floor-over M = ap floorF quotient-is ∙ floor-round-quotient u g P short some M

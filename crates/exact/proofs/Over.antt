@@ -1,28 +1,36 @@
--- Floats over a common denominator c, as after a fold: sums, differences and comparisons are those of the numerators. And when a number less 1 rounds to -1 or below.
+-- Floats over a common denominator c: sums, differences and comparisons are those of the numerators.
 use mathlib.Core.Path.{_≡_, refl, sym, ap, _∙_, subst}
-use mathlib.Core.Logic.{dite}
-use Prim.Native.Nat.{ℕ, zero, suc, _+_, _-_, _*_, _^_, _≤_, _<_}
-use native.Mathlib.Nat.{mul-one, one-mul, mul-assoc, mul-comm, mul-right-comm, sub-zero, zero-lt-suc, le-refl, le-trans, le-of-eq, le-of-lt, lt-of-le-of-lt, lt-of-lt-of-le, mul-pos, mul-lt-mul-of-pos-right, mul-le-mul-right, eq-of-mul-eq-mul-right, lt-of-mul-lt-mul-right, le-of-mul-le-mul-right}
-use native.Mathlib.Decide.{decLe, decLt}
-use native.Mathlib.Omega.{arith}
-use mathlib.Core.Bool.{Bool, true, false, not, _&&_, _||_, cond, true≢false}
-use lib.IntN.{ℤ, pos}
-use lib.Dec.{ltb, leb, eqb, leb→le, le→leb, eqb→eq, lit≤, lit<}
-use lib.Pow.{pow-pos}
-use lib.Ieee.{Float, nan, inf, fin, binary64, up, down, unlike, below, level, round, sum, neg, add, sub, lt, le, ofInt}
+use Prim.Native.Nat.{ℕ, zero, suc, _-_, _*_, _^_, _≤_, _<_, zero-le, suc-le-suc}
+use native.Mathlib.Nat.{zero-mul, mul-one, one-mul, mul-assoc, mul-right-comm, zero-lt-suc, le-trans, le-of-eq, lt-of-le-of-lt, mul-pos, mul-le-mul-right, eq-of-mul-eq-mul-right}
+use mathlib.Core.Bool.{Bool, true, false, not, _&&_, _||_, cond}
+use lib.IntN.{ℤ, pos, negsuc, natAbs}
+use lib.Dec.{T, ltb, leb, eqb, leb→le, le→leb, lit<}
+use lib.Pow.{pow-lt}
+use lib.Ieee.{Float, nan, inf, fin, binary64, up, down, below, level, round, sum, neg, lt, le, fits, size}
 use lib.Ieee.Exact.{HasValue}
-use lib.Ieee.Fits.{down-pos, eq→eqb, and-i, and-l, and-r}
-use lib.Ieee.Order.{round-mono}
-use borrow.Author.Tests.{le-leb, lt-leb, le-ltb, lt-ltb}
-use Rattle.exact.specs.Rounded.{_⊕_, _⊖_, num}
+use lib.Ieee.Fits.{down-pos, eq→eqb, and-i}
+use lib.Ieee.Back.{round-whole}
+use borrow.Author.Tests.{le-ltb, lt-ltb}
+use Rattle.exact.specs.Rounded.{_⊕_, _⊖_, _⊗_, num}
 use Rattle.exact.specs.Whole.{Is}
+use Rattle.exact.specs.Within.{Within}
 use Rattle.exact.proofs.Tests.{le-of-level, le-of-test, test-of-le, equal}
-use Rattle.exact.proofs.Value.{is-true, bool-ext, add-val, sub-val, neg-val, lt-val, le-val, sum-same, below-scale, level-scale}
-use Rattle.exact.proofs.Whole.{W-val}
-use Rattle.exact.proofs.Is.{is-value}
-use Rattle.exact.proofs.Bounds.{AtMost, AtLeast, HasSign, round-signed, round-neg, neg-at-most, neg-at-least, le-at-least}
-use Rattle.exact.proofs.Above.{minusOne}
-use Rattle.exact.proofs.Middles.{rescaled, round-below-middle}
+use Rattle.exact.proofs.Value.{bool-ext, add-val, sub-val, neg-val, lt-val, le-val, sum-same, below-scale, level-scale}
+use Rattle.exact.proofs.Whole.{W-val, mul-whole}
+use Rattle.exact.proofs.Is.{is-size, is-value}
+use Rattle.exact.proofs.Bounds.{HasSign, round-signed}
+use Rattle.exact.proofs.Quotients.{dyadic}
+use Rattle.exact.proofs.Unique.{fits-says}
+
+-- ---- from one fraction to another of the same size
+pub rescaled : (x : Float) (s : Bool) (a c b d : ℕ) → 0 < c → a * d ≡ b * c → HasValue x s a c → HasValue x s b d
+rescaled nan s a c b d C e v = v
+rescaled (inf t) s a c b d C e v = v
+rescaled (fin t m x) s a c b d C e v = (
+  v .0,
+  eq-of-mul-eq-mul-right c C (m * up x * d) (b * down x)
+      (mul-right-comm (m * up x) d c ∙ ap (λ (z : ℕ). z * d) (v .1) ∙ mul-right-comm a (down x) d ∙ ap (λ (z : ℕ). z * down x) e ∙ mul-right-comm b c (down x)),
+)
 
 -- x is a / c, or -a / c where s is true
 pub record Over (c : ℕ) (x : Float) (s : Bool) (a : ℕ) : Type 0 where
@@ -72,70 +80,55 @@ leb-turned a b =
     bool-ext (ltb b a || (eqb a b && true)) (leb b a) (λ t. le→leb b a (le-of-test b a (eqb a b && true) (λ u. sym (equal a b u)) t))
     (λ t. test-of-le b a (eqb a b && true) (λ e. and-i (eqb a b) true (eq→eqb (sym e)) tt) (leb→le b a t))
 
--- ---- at -1 or below, and above it
-at-minus-one : (x : Float) → HasSign true x → AtLeast x 1 1 → le x minusOne ≡ true
-unfolding le
-at-minus-one nan s h = absurd s
-at-minus-one (inf true) s h = refl
-at-minus-one (inf false) s h = absurd (true≢false (sym s))
-at-minus-one (fin true m e) s h = leb-turned (m * up e * 1) (1 * down e) ∙ le-leb (1 * down e) (m * up e * 1) h
-at-minus-one (fin false m e) s h = absurd (true≢false (sym s))
-
-pub no-minus : (x : Float) → HasSign false x → le x minusOne ≡ false
-unfolding le
-no-minus nan s = absurd s
-no-minus (inf true) s = absurd (true≢false s)
-no-minus (inf false) s = refl
-no-minus (fin true m e) s = absurd (true≢false s)
-no-minus (fin false m e) s =
-    let a = m * up e * 1 in
-    let b = 1 * down e in
-    bool-ext (level false a true b) false
-    (λ t. not-zero a (down e) (down-pos e) (eqb→eq a b (and-l (eqb a b) (eqb a 0) t)) (eqb→eq a 0 (and-r (eqb a b) (eqb a 0) t))) (λ t. absurd t)
-  where
-    not-zero : (a d : ℕ) → 0 < d → a ≡ 1 * d → a ≡ 0 → ⊥
-    not-zero a d D p q = omega arith
-
-pub short-of-one : (x : Float) (a c : ℕ) → a < c → AtMost x a c → le x minusOne ≡ false
-unfolding le
-short-of-one nan a c l h = absurd h
-short-of-one (inf t) a c l h = absurd h
-short-of-one (fin true m e) a c l h =
-    leb-turned (m * up e * 1) (1 * down e)
-    ∙ lt-leb (1 * down e) (m * up e * 1)
-    (lt-of-mul-lt-mul-right c (lt-of-le-of-lt (le-trans (le-of-eq (ap (λ (z : ℕ). z * c) (mul-one (m * up e)))) h) (lt-of-lt-of-le (mul-lt-mul-of-pos-right l (down-pos e)) (le-of-eq (mul-comm c (down e) ∙ ap (λ (z : ℕ). z * c) (sym (one-mul (down e))))))))
-short-of-one (fin false m e) a c l h = no-minus (fin false m e) refl
-
-minus-one : neg (num 1) ≡ minusOne
-unfolding neg ofInt
-minus-one = refl
-
--- ---- y - 1, with y = d / 2 ^ g, rounds to -1 or below where y is at most 2 ^ -54: half of the step from -1 up, and a tie goes to -1
-module _ (G d : ℕ) (P : 0 < G) (l : d < G) where
-  deep : d * 2 ^ 54 ≤ G → le (round binary64 true (G - d) G) minusOne ≡ true
-  deep h = at-minus-one (round binary64 true (G - d) G) (round-signed binary64 true (G - d) G) (subst (λ (x : Float). AtLeast x 1 1) (sym (round-neg binary64 (G - d) G)) (neg-at-least (round binary64 false (G - d) G) 1 1 least))
-    where
-      tie : HasValue (round binary64 false (2 ^ 54 - 1) (2 ^ 54)) false 1 1
-      tie = unfold round in (refl, refl)
-
-      least : AtLeast (round binary64 false (G - d) G) 1 1
-      least = le-at-least (round binary64 false (2 ^ 54 - 1) (2 ^ 54)) (round binary64 false (G - d) G) 1 1 (round-signed binary64 false (G - d) G) tie (round-mono binary64 (2 ^ 54 - 1) (2 ^ 54) (G - d) G (pow-pos 54) P (omega arith))
-
-  shallow : G < d * 2 ^ 54 → le (round binary64 true (G - d) G) minusOne ≡ false
-  shallow h =
-      short-of-one (round binary64 true (G - d) G) (2 ^ 53 - 1) (2 ^ 53) (lit< tt)
-      (subst (λ (x : Float). AtMost x (2 ^ 53 - 1) (2 ^ 53)) (sym (round-neg binary64 (G - d) G))
-      (neg-at-most (round binary64 false (G - d) G) (2 ^ 53 - 1) (2 ^ 53) (round-below-middle (G - d) G (2 ^ 53 - 1) 53 P (lit≤ tt) (lit< tt) (lit≤ tt) (omega arith))))
-
-pub less-one : (g : ℕ) {y : Float} {d : ℕ} → Over (2 ^ g) y false d → le (y ⊖ num 1) (neg (num 1)) ≡ leb (d * 2 ^ 54) (2 ^ g)
+-- ---- sums of a number and a negative one: exact where few digits are left, and not negative where the first is the larger
+pub exact-below : (a b g : ℕ) → a < b → b - a < 2 ^ 53 → g ≤ 1074 → HasValue (sum binary64 false a true b (2 ^ g)) true (b - a) (2 ^ g)
 unfolding sum
-less-one g {y} {d} h =
-    let G = 2 ^ g in
-    let P : 0 < G = pow-pos g in
-    let one : Over G (num 1) false G = subst (λ (k : ℕ). Over G (num 1) false k) (one-mul G) (num-over P 1 (lit≤ tt)) in
-    ap (λ (x : Float). le (y ⊖ num 1) x) minus-one ∙ ap (λ (x : Float). le x minusOne) (difference-over P h one)
-    ∙ dite (decLt d G)
-    (λ l. ap (λ (b : Bool). le (cond b (round binary64 true (G - d) G) (round binary64 false (d - G) G)) minusOne) (lt-ltb d G l)
-    ∙ dite (decLe (d * 2 ^ 54) G) (λ k. deep G d P l k ∙ sym (le-leb (d * 2 ^ 54) G k)) (λ o. let k : G < d * 2 ^ 54 = omega arith in shallow G d P l k ∙ sym (lt-leb (d * 2 ^ 54) G k)))
-    (λ o. ap (λ (b : Bool). le (cond b (round binary64 true (G - d) G) (round binary64 false (d - G) G)) minusOne) (le-ltb d G (omega arith))
-    ∙ no-minus (round binary64 false (d - G) G) (round-signed binary64 false (d - G) G) ∙ sym (lt-leb (d * 2 ^ 54) G (omega arith)))
+exact-below a b g l S K =
+    subst (λ (t : Bool). HasValue (cond t (round binary64 true (b - a) (2 ^ g)) (round binary64 false (a - b) (2 ^ g))) true (b - a) (2 ^ g)) (sym (lt-ltb a b l)) (dyadic true (b - a) g S K)
+
+pub exact-above : (a b g : ℕ) → b ≤ a → a - b < 2 ^ 53 → g ≤ 1074 → HasValue (sum binary64 false a true b (2 ^ g)) false (a - b) (2 ^ g)
+unfolding sum
+exact-above a b g l S K =
+    subst (λ (t : Bool). HasValue (cond t (round binary64 true (b - a) (2 ^ g)) (round binary64 false (a - b) (2 ^ g))) false (a - b) (2 ^ g)) (sym (le-ltb a b l)) (dyadic false (a - b) g S K)
+
+pub sum-sign : (a b c : ℕ) → a ≤ b → HasSign false (sum binary64 true a false b c)
+unfolding sum
+sum-sign a b c l = go (ltb a b) (ltb b a) (le-ltb b a l)
+  where
+    go : (t u : Bool) → u ≡ false → HasSign false (cond t (round binary64 false (b - a) c) (round binary64 (true && u) (a - b) c))
+    go true u e = round-signed binary64 false (b - a) c
+    go false u e = subst (λ (s : Bool). HasSign false (round binary64 s (a - b) c)) (sym e) (round-signed binary64 false (a - b) c)
+
+-- ---- a multiple of a whole number
+pub multiple-over : {c : ℕ} {p : Float} {P : ℕ} (n : ℕ) → 0 < c → Is p (pos P) → 0 < P → P * n ≤ 2 ^ 53 → Over c (p ⊗ num n) false (P * n * c)
+multiple-over {c} {p} {P} n C k some M =
+    let N : n ≤ 2 ^ 53 = le-trans (le-trans (le-of-eq (sym (one-mul n))) (mul-le-mul-right n some)) M in
+    whole-over C (p ⊗ num n) false (P * n) (subst (λ (x : Float). HasValue x false (P * n) 1) (sym (mul-whole binary64 p (num n) false false P n (is-value k some) (W-val (pos n) N))) (round-whole binary64 false (P * n) M))
+
+-- ---- every float of size up to 2 ^ k is ±u / 2 ^ g, with u of 53 digits
+pub record Dyadic (k : ℕ) (x : Float) : Type 0 where
+  pub sign : Bool
+  pub u : ℕ
+  pub g : ℕ
+  pub short : u < 2 ^ 53
+  pub bound : u ≤ 2 ^ k * 2 ^ g
+  pub is : Over (2 ^ g) x sign u
+
+pub dyadic-of : (x : Float) {k : ℕ} → k ≤ 52 → T (fits binary64 x) → Within k x → Dyadic k x
+dyadic-of nan K f w = absurd (w .bound)
+dyadic-of (inf s) K f w = absurd (w .bound)
+dyadic-of (fin s zero e) K f w = record { sign = s; u = 0; g = 0; short = lit< tt; bound = zero-le; is = record { value = (refl, ap (λ (z : ℕ). z * 1) (zero-mul (up e)) ∙ sym (zero-mul (down e))) } }
+dyadic-of (fin s (suc m) (pos j)) {k} K f w =
+    record { sign = s; u = suc m * 2 ^ j; g = 0; short = lt-of-le-of-lt (w .bound) (lt-of-le-of-lt (le-of-eq (mul-one (2 ^ k))) (pow-lt (suc-le-suc K))); bound = w .bound; is = record { value = (refl, refl) } }
+dyadic-of (fin s (suc m) (negsuc j)) {k} K f w =
+    let e : suc m * 1 ≡ suc m = mul-one (suc m) in
+    record { sign = s; u = suc m; g = suc j; short = fits-says binary64 s m (negsuc j) f .short; bound = subst (λ (z : ℕ). z ≤ 2 ^ k * 2 ^ suc j) e (w .bound); is = record { value = (refl, ap (λ (z : ℕ). z * 2 ^ suc j) e) } }
+
+-- a number by its fraction and as a whole number
+pub over-size : {c : ℕ} {x : Float} {s : Bool} {a : ℕ} {z : ℤ} → Over c x s a → Is x z → a ≡ natAbs z * c
+over-size {c} {x} {s} {a} {z} h k = go x (h .value) (k .value) ∙ ap (λ (n : ℕ). n * c) (sym (is-size k))
+  where
+    go : (x : Float) → HasValue x s a c → HasValue x (k .sign) (k .size) 1 → a ≡ k .size * c
+    go nan v w = absurd v
+    go (inf t) v w = absurd v
+    go (fin t m e) v w = eq-of-mul-eq-mul-right (down e) (down-pos e) a (k .size * c) (sym (v .1) ∙ ap (λ (n : ℕ). n * c) (sym (mul-one (m * up e)) ∙ w .1) ∙ mul-right-comm (k .size) (down e) c)
