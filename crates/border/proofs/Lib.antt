@@ -5,4 +5,5 @@ pub mod Once
 pub mod Rests
 pub mod Strips
 pub mod Landing
+pub mod Outside
 pub mod Worked

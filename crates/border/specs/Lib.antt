@@ -3,4 +3,5 @@ pub mod Fold
 pub mod Manual
 pub mod Once
 pub mod Landing
+pub mod Outside
 pub mod Worked

@@ -28,7 +28,7 @@ use Rattle.exact.proofs.Rounds.{nearest-lower}
 use Rattle.exact.proofs.Over.{Over, rescaled}
 
 -- ---- a float by its value
-at-most-value : (x : Float) (s : Bool) (a c : ℕ) → HasValue x s a c → AtMost x a c
+pub at-most-value : (x : Float) (s : Bool) (a c : ℕ) → HasValue x s a c → AtMost x a c
 at-most-value nan s a c v = v
 at-most-value (inf t) s a c v = v
 at-most-value (fin t m e) s a c v = le-of-eq (v .1)
