@@ -9,10 +9,11 @@ use mathlib.Core.Bool.{Bool, true, false, _&&_, cond, true≢false}
 use lib.IntN.{pos, negsuc, negℤ, natAbs}
 use lib.Dec.{T, ltb, leb, lit≤}
 use lib.Pow.{pow-pos}
-use lib.Ieee.{Float, nan, inf, fin, binary64, neg, lt, le, sum, fits}
+use lib.Ieee.{Float, fin, binary64, neg, lt, le, sum, fits}
 use lib.Ieee.Exact.{HasValue}
-use borrow.Author.Tests.{le-leb, lt-leb, le-ltb, lt-ltb, leb-true, ne-eqb}
-use Rattle.exact.specs.Rounded.{_⊕_, _⊖_, _⊗_, num}
+use lib.Ieee.Positive.{first-pos}
+use borrow.Author.Tests.{le-leb, lt-leb, le-ltb, lt-ltb, leb-true, ltb-true, ne-eqb}
+use Rattle.exact.specs.Rounded.{_⊕_, _⊖_, _⊗_, _⊘_, num}
 use Rattle.exact.specs.Whole.{Is}
 use Rattle.exact.specs.Within.{Within}
 use Rattle.exact.proofs.Naturals.{num-is, times}
@@ -20,8 +21,8 @@ use Rattle.exact.proofs.Value.{le-val}
 use Rattle.exact.proofs.Is.{neg-is, le-is}
 use Rattle.exact.proofs.Bounds.{HasSign}
 use Rattle.exact.proofs.Unique.{pow-le}
-use Rattle.exact.proofs.Over.{Over, num-over, is-over, neg-over, sum-over, difference-over, lt-over, le-over, leb-is, leb-turned, exact-below, exact-above, sum-sign, multiple-over, Dyadic, dyadic-of, over-size, rescaled}
-use Rattle.exact.proofs.Middles.{at-most-value, floor-over}
+use Rattle.exact.proofs.Over.{Over, num-over, is-over, neg-over, sum-over, difference-over, lt-over, le-over, leb-is, leb-turned, exact-below, exact-above, sum-sign, multiple-over, Dyadic, dyadic-of, over-size, over-sign, rescaled}
+use Rattle.exact.proofs.Middles.{at-most-value, quotient-stays-below, floor-over}
 use Rattle.exact.proofs.MinusOne.{not-negative, nearer-zero, less-one}
 use Rattle.border.specs.declared.BorderMode.the-variants.{Reflect}
 use Rattle.border.specs.Fold.{reflectPeriod, reflectUnder, fold, foldReflect}
@@ -40,14 +41,6 @@ stays = arms.inside Reflect
 -- one part of 2^53 and fewer is more than 2^-54
 not-tiny : (d G : ℕ) → 0 < d → G < 2 ^ 53 → G < d * 2 ^ 54
 not-tiny d G D S = omega arith
-
-signed : {c : ℕ} {x : Float} {s : Bool} {a : ℕ} → Over c x s a → HasSign s x
-signed {c} {x} {s} {a} h = go x (h .value)
-  where
-    go : (x : Float) → HasValue x s a c → HasSign s x
-    go nan v = v
-    go (inf t) v = absurd v
-    go (fin t m e) v = v .0
 
 module _ (L : ℕ) (least : 2 ≤ L) (most : L ≤ 4120) (g : ℕ) where
   some : 0 < 2 ^ g
@@ -145,7 +138,7 @@ module _ (L : ℕ) (least : 2 ≤ L) (most : L ≤ 4120) (g : ℕ) where
       beyond = le-over some len-over h ∙ leb-is (L * 2 ^ g) u
 
       inside : u < L * 2 ^ g → le (foldReflect idx (num L)) minus1 ≡ false
-      inside l = ap (λ (x : Float). le x minus1) (sym (stays idx (num L) not-below (beyond ∙ lt-leb (L * 2 ^ g) u l))) ∙ not-negative idx (signed h)
+      inside l = ap (λ (x : Float). le x minus1) (sym (stays idx (num L) not-below (beyond ∙ lt-leb (L * 2 ^ g) u l))) ∙ not-negative idx (over-sign h)
 
       module _ (l : L * 2 ^ g ≤ u) where
         abbrev over-left : Float
@@ -164,7 +157,7 @@ module _ (L : ℕ) (least : 2 ≤ L) (most : L ≤ 4120) (g : ℕ) where
             let by = arms.reflect-over idx (num L) (num turns) (sym (floor-over g h short period (omega arith) room)) not-below (beyond ∙ le-leb (L * G) u l) in
             let test : le (num L) over-left ≡ leb (L * G) r = le-over some len-over over-is ∙ leb-is (L * G) r in
             dite (decLt r (L * G))
-            (λ k. ap (λ (x : Float). le x minus1) (sym (by false (test ∙ lt-leb (L * G) r k))) ∙ not-negative over-left (signed over-is))
+            (λ k. ap (λ (x : Float). le x minus1) (sym (by false (test ∙ lt-leb (L * G) r k))) ∙ not-negative over-left (over-sign over-is))
             (λ o.
             let d = 2 * L * G - r in
             let back : Over G (reflectPeriod (num L) ⊖ over-left) false d =
@@ -241,3 +234,14 @@ module _ (L : ℕ) (least : 2 ≤ L) (most : L ≤ 4120) {idx : Float} (D : Dyad
 pub reflect-outside : (L : ℕ) (idx : Float) → 2 ≤ L → L ≤ 4120 → T (fits binary64 idx) → Within 26 idx → (le (fold Reflect idx (num L)) (neg (num 1)) ≡ true) ↔ Lost L idx
 unfolding fold
 reflect-outside L idx least most f w = let D = dyadic-of idx (lit≤ tt) f w in decided L least most D (D .sign) (D .u) (D .g) (D .short) (D .bound) (D .is)
+
+-- No coordinate just above -2kL is lost by its quotient by 2L rounding up to k: the rounded quotient stays below k.
+pub no-round-up : (L k : ℕ) (idx : Float) → 2 ≤ L → L ≤ 4120 → 2 * L * k ≤ 2 ^ 53 → T (fits binary64 idx) → Within 26 idx → lt (neg (num (2 * L * k))) idx ≡ true → lt idx (num 0) ≡ true → lt (neg idx ⊘ reflectPeriod (num L)) (num k) ≡ true
+no-round-up L k idx least most K f w a b = let D = dyadic-of idx (lit≤ tt) f w in go (D .sign) (D .u) (D .g) (D .short) (D .bound) (D .is)
+  where
+    go : (s : Bool) (u g : ℕ) → u < 2 ^ 53 → u ≤ 2 ^ 26 * 2 ^ g → Over (2 ^ g) idx s u → lt (neg idx ⊘ reflectPeriod (num L)) (num k) ≡ true
+    go false u g S B h = absurd (true≢false (sym b ∙ not-below L least most g u S B h))
+    go true u g S B h =
+        let l : u < 2 * L * k * 2 ^ g = ltb-true u (2 * L * k * 2 ^ g) (sym (lt-over (pow-pos g) (neg-over (num-over (pow-pos g) (2 * L * k) K)) h) ∙ a) in
+        let l' : u < k * (2 * L) * 2 ^ g = subst (λ (n : ℕ). u < n * 2 ^ g) (mul-comm (2 * L) k) l in
+        quotient-stays-below g (neg-over h) S (period L least most g) (omega arith) k (first-pos k (2 * L) (first-pos (k * (2 * L)) (2 ^ g) (lt-of-le-of-lt zero-le l'))) (le-trans (le-of-eq (mul-comm k (2 * L))) K) l'

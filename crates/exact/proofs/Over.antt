@@ -132,3 +132,11 @@ over-size {c} {x} {s} {a} {z} h k = go x (h .value) (k .value) ∙ ap (λ (n : �
     go nan v w = absurd v
     go (inf t) v w = absurd v
     go (fin t m e) v w = eq-of-mul-eq-mul-right (down e) (down-pos e) a (k .size * c) (sym (v .1) ∙ ap (λ (n : ℕ). n * c) (sym (mul-one (m * up e)) ∙ w .1) ∙ mul-right-comm (k .size) (down e) c)
+
+pub over-sign : {c : ℕ} {x : Float} {s : Bool} {a : ℕ} → Over c x s a → HasSign s x
+over-sign {c} {x} {s} {a} h = go x (h .value)
+  where
+    go : (x : Float) → HasValue x s a c → HasSign s x
+    go nan v = v
+    go (inf t) v = absurd v
+    go (fin t m e) v = v .0
