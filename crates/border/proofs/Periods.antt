@@ -12,7 +12,7 @@ neg-multiple p (pos zero) = ap (λ (k : ℕ). negℤ (pos k)) (mul-zero p) ∙ a
 neg-multiple p (pos (suc k)) = refl
 neg-multiple p (negsuc k) = negℤ-negℤ (pos (p * suc k))
 
-turned : {p : ℕ} {n m : ℤ} → Apart p n m → Apart p (negℤ n) (negℤ m)
+pub turned : {p : ℕ} {n m : ℤ} → Apart p n m → Apart p (negℤ n) (negℤ m)
 turned {p} {m = m} h = record { times = negℤ (h .times); equal = ap negℤ (h .equal) ∙ negℤ-+ℤ m (pos p *ℤ h .times) ∙ ap (λ (z : ℤ). negℤ m +ℤ z) (neg-multiple p (h .times)) }
 
 -- ---- a coordinate a: the voxel i itself, and its reflection

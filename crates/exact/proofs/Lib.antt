@@ -20,3 +20,6 @@ pub mod Above
 pub mod Nans
 pub mod Halves
 pub mod Upto
+pub mod Over
+pub mod Middles
+pub mod MinusOne

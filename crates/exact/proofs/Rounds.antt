@@ -32,7 +32,7 @@ use Rattle.exact.proofs.Weights.{eq-own}
 use Rattle.exact.proofs.Ranges.{Between, natural-between}
 
 -- ---- `nearest`, by how twice the remainder compares with the divisor
-nearest-lower : (q a b : ℕ) → a < b → nearest q (compare a b) ≡ q
+pub nearest-lower : (q a b : ℕ) → a < b → nearest q (compare a b) ≡ q
 nearest-lower q a b h = go (compare a b) (le→leb a b (le-of-lt h)) (λ t. ne-of-lt h (eqb→eq a b t))
   where
     go : (o : Ordering) → T (isLe o) → (T (isEq o) → ⊥) → nearest q o ≡ q
