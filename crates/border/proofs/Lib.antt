@@ -1,9 +1,9 @@
 -- The laws of the fold, and the theorems that hold it to the manual (`Landing`), say how many voxels the manual lets stand (`Once`), and where Reflect loses a coordinate (`Outside`).
 pub mod Arms
 pub mod Periods
-pub mod Once
 pub mod Rests
-pub mod Strips
 pub mod Landing
+pub mod Once
+pub mod Strips
 pub mod Outside
 pub mod Worked

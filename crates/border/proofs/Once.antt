@@ -1,9 +1,8 @@
 -- At a whole coordinate the manual's rule lets one voxel stand; none beyond the border in Constant; and in Wrap, at multiples of L - 1, the first and the last.
 use mathlib.Core.Path.{_≡_, refl, sym, ap, _∙_, subst}
-use mathlib.Core.Logic.{_⊎_, inl, inr, dite}
+use mathlib.Core.Logic.{_⊎_, inl, inr}
 use Prim.Native.Nat.{ℕ, zero, suc, _+_, _-_, _*_, _/_, _%_, _≤_, _<_, zero-le}
 use native.Mathlib.Nat.{sub-zero, mul-suc, mod-lt, mod-eq-of-lt, add-mul-mod-self-left, le-of-lt}
-use native.Mathlib.Decide.{decLt}
 use native.Mathlib.Omega.{arith}
 use lib.IntN.{ℤ, pos, negsuc, negℤ, natAbs, predℤ, _+ℤ_, _-ℤ_, _*ℤ_, +ℤ-comm, +ℤ-assoc, *ℤ-comm, predℤ-*ℤ, -ℤ-+ℤ-cancel, negℤ-negℤ, pos-ne-negsuc}
 use lib.Signed.{_≤ℤ_, _<ℤ_, leZ-yes, ltZ-yes, clashℤ}
@@ -16,6 +15,7 @@ use Rattle.border.specs.declared.BorderMode.{BorderMode}
 use Rattle.border.specs.declared.BorderMode.the-variants.{Constant, Mirror, Nearest, Reflect, Wrap}
 use Rattle.border.specs.Manual.{Apart, Rule, Stands}
 use Rattle.border.specs.Once.{One, None, Ends, Once}
+use Rattle.border.proofs.Landing.{sides}
 use Rattle.border.proofs.Periods.{turned, up-own, down-own, parts, next-multiple}
 
 -- ---- a voxel i below the period, a whole number of periods from n, is n modulo the period
@@ -52,10 +52,6 @@ pub apart-rest : (p : ℕ) (n : ℤ) → 0 < p → Apart p n (pos (modZ n p))
 apart-rest p (pos a) P = up-own p a (a % p) (a / p) (parts a p)
 apart-rest p (negsuc c) P = down-own p (suc c) (p - suc (c % p)) (suc (c / p)) (next-multiple (suc c) (suc (c % p)) p (c / p) (ap suc (parts c p) ∙ omega arith) (mod-lt c P))
 
--- ---- which of two sides
-sides : {X : Type 0} (a b : ℕ) → (a < b → X) → (b ≤ a → X) → X
-sides a b f g = dite (decLt a b) f (λ n. g (omega arith))
-
 module _ (L : ℕ) (n : ℤ) (least : 2 ≤ L) where
   -- ---- Mirror: the voxel is r = n modulo 2L - 2, or 2L - 2 - r
   mirror-rest : (i : ℕ) → Stands Mirror L n i → (modZ n (2 * L - 2) ≡ i) ⊎ (modZ n (2 * L - 2) + i ≡ 2 * L - 2)
@@ -72,17 +68,18 @@ module _ (L : ℕ) (n : ℤ) (least : 2 ≤ L) where
       let r = modZ n p in
       let apart : Apart p n (pos r) = apart-rest p n (omega arith) in
       let small : r < p = mod-le n p (omega arith) in
-      sides r L
-      (λ l. record {
-        i = r;
-        stands = record { voxel = l; rule = inl apart };
-        only = λ j s. elim (mirror-rest j s) [ inl e ↦ sym e | inr e ↦ let v = s .voxel in omega arith ];
-      })
-      (λ l. record {
-        i = p - r;
-        stands = record { voxel = omega arith; rule = inr (reflected (le-of-lt small) apart) };
-        only = λ j s. elim (mirror-rest j s) [ inl e ↦ let v = s .voxel in omega arith | inr e ↦ omega arith ];
-      })
+      elim (sides r L) [
+        | inl l ↦ record {
+          i = r;
+          stands = record { voxel = l; rule = inl apart };
+          only = λ j s. elim (mirror-rest j s) [ inl e ↦ sym e | inr e ↦ let v = s .voxel in omega arith ];
+        }
+        | inr l ↦ record {
+          i = p - r;
+          stands = record { voxel = omega arith; rule = inr (reflected (le-of-lt small) apart) };
+          only = λ j s. elim (mirror-rest j s) [ inl e ↦ let v = s .voxel in omega arith | inr e ↦ omega arith ];
+        }
+      ]
 
   -- ---- Reflect: the voxel is r = n modulo 2L, or 2L - 1 - r
   reflect-rest : (i : ℕ) → Stands Reflect L n i → (modZ n (2 * L) ≡ i) ⊎ (modZ n (2 * L) + suc i ≡ 2 * L)
@@ -99,19 +96,20 @@ module _ (L : ℕ) (n : ℤ) (least : 2 ≤ L) where
       let r = modZ n p in
       let apart : Apart p n (pos r) = apart-rest p n (omega arith) in
       let small : r < p = mod-le n p (omega arith) in
-      sides r L
-      (λ l. record {
-        i = r;
-        stands = record { voxel = l; rule = inl apart };
-        only = λ j s. elim (reflect-rest j s) [ inl e ↦ sym e | inr e ↦ let v = s .voxel in omega arith ];
-      })
-      (λ l.
-      let e : p - r ≡ suc (p - r - 1) = omega arith in
-      record {
-        i = p - r - 1;
-        stands = record { voxel = omega arith; rule = inr (subst (λ (m : ℕ). Apart p n (negℤ (pos m))) e (reflected (le-of-lt small) apart)) };
-        only = λ j s. elim (reflect-rest j s) [ inl e ↦ let v = s .voxel in omega arith | inr e ↦ omega arith ];
-      })
+      elim (sides r L) [
+        | inl l ↦ record {
+          i = r;
+          stands = record { voxel = l; rule = inl apart };
+          only = λ j s. elim (reflect-rest j s) [ inl e ↦ sym e | inr e ↦ let v = s .voxel in omega arith ];
+        }
+        | inr l ↦
+            let e : p - r ≡ suc (p - r - 1) = omega arith in
+            record {
+              i = p - r - 1;
+              stands = record { voxel = omega arith; rule = inr (subst (λ (m : ℕ). Apart p n (negℤ (pos m))) e (reflected (le-of-lt small) apart)) };
+              only = λ j s. elim (reflect-rest j s) [ inl e ↦ let v = s .voxel in omega arith | inr e ↦ omega arith ];
+            }
+      ]
 
   -- ---- Wrap: the voxel is r = n modulo L - 1; where r is 0, also L - 1
   wrap-first : Apart (L - 1) n (pos (L - 1)) → Apart (L - 1) n (pos 0)
@@ -125,8 +123,10 @@ module _ (L : ℕ) (n : ℤ) (least : 2 ≤ L) where
   pub wrap-rest : (i : ℕ) → Stands Wrap L n i → (modZ n (L - 1) ≡ i) ⊎ ((i ≡ L - 1) × (modZ n (L - 1) ≡ 0))
   wrap-rest i s =
       let v = s .voxel in
-      sides i (L - 1) (λ l. inl (own-rest l (s .rule)))
-      (λ l. let e : i ≡ L - 1 = omega arith in inr (e, own-rest (omega arith) (wrap-first (subst (λ (m : ℕ). Apart (L - 1) n (pos m)) e (s .rule)))))
+      elim (sides i (L - 1)) [
+        | inl l ↦ inl (own-rest l (s .rule))
+        | inr l ↦ let e : i ≡ L - 1 = omega arith in inr (e, own-rest (omega arith) (wrap-first (subst (λ (m : ℕ). Apart (L - 1) n (pos m)) e (s .rule))))
+      ]
 
   wrap-ends : Apart (L - 1) n (pos 0) → Ends Wrap L n
   wrap-ends h = record {
@@ -158,17 +158,18 @@ nearest-once L (negsuc c) least = record {
   only = λ j s. elim (s .rule) [ inl e ↦ absurd (pos-ne-negsuc j c (sym e)) | inr o ↦ elim o [ inl h ↦ h .1 | inr h ↦ absurd (h .0 .le) ] ];
 }
 nearest-once L (pos a) least =
-    sides a L
-    (λ l. record {
-      i = a;
-      stands = record { voxel = l; rule = inl refl };
-      only = λ j s. elim (s .rule) [ inl e ↦ sym (same e) | inr o ↦ elim o [ inl h ↦ omega (arith, ltb→lt a 0 (h .0 .lt)) | inr h ↦ omega (arith, leb→le L a (h .0 .le)) ] ];
-    })
-    (λ l. record {
-      i = L - 1;
-      stands = record { voxel = omega arith; rule = inr (inr (leZ-yes (le→leb L a l), refl)) };
-      only = λ j s. elim (s .rule) [ inl e ↦ omega (arith, same e, s .voxel) | inr o ↦ elim o [ inl h ↦ omega (arith, ltb→lt a 0 (h .0 .lt)) | inr h ↦ h .1 ] ];
-    })
+    elim (sides a L) [
+      | inl l ↦ record {
+        i = a;
+        stands = record { voxel = l; rule = inl refl };
+        only = λ j s. elim (s .rule) [ inl e ↦ sym (same e) | inr o ↦ elim o [ inl h ↦ omega (arith, ltb→lt a 0 (h .0 .lt)) | inr h ↦ omega (arith, leb→le L a (h .0 .le)) ] ];
+      }
+      | inr l ↦ record {
+        i = L - 1;
+        stands = record { voxel = omega arith; rule = inr (inr (leZ-yes (le→leb L a l), refl)) };
+        only = λ j s. elim (s .rule) [ inl e ↦ omega (arith, same e, s .voxel) | inr o ↦ elim o [ inl h ↦ omega (arith, ltb→lt a 0 (h .0 .lt)) | inr h ↦ h .1 ] ];
+      }
+    ]
 
 -- ---- Constant
 outside-none : (fill : Float) (L : ℕ) (n : ℤ) → (n <ℤ pos 0) ⊎ (pos L ≤ℤ n) → None (Constant fill) L n
