@@ -16,9 +16,9 @@ use Rattle.coverage.specs.Coverage.{keptAt, dropValue}
 use Rattle.voxels.specs.Sum.{Tap}
 use Rattle.voxels.specs.Voxel.{tapOf, computed}
 
--- ---- the neighbours of the last axis: a column of `longest` places for each of six, and the places past them that the last block of a row reads
+-- ---- the neighbours of the last axis: a column of `longest` places for each of six, and room for the last block of the last column
 abbrev pub tableSize : ℕ
-tableSize = 24580
+tableSize = 6 * longest + 4
 
 -- those of place o of a row, each neighbour's in its own column
 abbrev pub column : List ℕ → List Float → ℕ → Tap

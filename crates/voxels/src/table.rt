@@ -11,8 +11,8 @@ use axis::point::point_at;
 use border::BorderMode;
 use limits::LONGEST;
 
-// A column of LONGEST places for each of six neighbours; the last block of a row reads three past it.
-pub(crate) const TABLE: usize = 24580;
+// A column of LONGEST places for each of six neighbours, and room for the last block of the last one.
+pub(crate) const TABLE: usize = 6 * LONGEST + 4;
 
 fn put_places(table: &mut [usize], column: &[usize; 6], i: usize)
     requires { ⌜ (length (now table) ≡ tableSize) × (i < longest) ⌝ }
