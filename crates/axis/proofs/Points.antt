@@ -5,13 +5,13 @@ use native.Mathlib.Decide.{decLt}
 use native.Mathlib.Omega.{arith}
 use mathlib.Core.Path.{_≡_, refl, sym, ap, _∙_, subst}
 use mathlib.Core.Logic.{dite}
-use mathlib.Core.Bool.{Bool, true, false, _&&_, cond, true≢false}
+use mathlib.Core.Bool.{Bool, true, false, _&&_, cond}
 use mathlib.Core.List.{List}
 use lib.Dec.{T, leb, eqb}
 use lib.ListN.{length, getD, set, replicate, length-set, getD-replicate, List·getD-eq-default}
 use lib.Seq.{getD-set-other}
 use lib.Ieee.{Float, neg, ofInt, lt, le}
-use borrow.Author.Tests.{lt-leb, eq-eqb, ne-eqb, eqb-false}
+use borrow.Author.Tests.{lt-leb, eq-eqb, ne-eqb}
 use Rattle.exact.specs.Rounded.{_⊕_, num}
 use Rattle.exact.specs.Within.{Within}
 use Rattle.exact.proofs.Value.{of-true}
@@ -22,7 +22,6 @@ use Rattle.lists.proofs.Stretches.{store}
 use Rattle.border.specs.declared.BorderMode.{BorderMode}
 use Rattle.border.specs.Fold.{fold}
 use Rattle.axis.specs.declared.coordinate.Axis.{Axis}
-use Rattle.axis.specs.declared.point.Point.{Point}
 use Rattle.axis.specs.Coordinate.{settled, kept}
 use Rattle.axis.specs.Weights.{buildSplines}
 use Rattle.axis.specs.Neighbours.{firstNeighbour, outside, splineMode, neighbour, neighbourIndex}
@@ -124,41 +123,8 @@ module _ (order : ℕ) (mode : BorderMode) (a : Axis) (i : ℕ) {to : Float} (e 
   unfolding pointAt
   point-dropped t = simp (ap (λ (x : Float). kept x) (sym e) ∙ t)
 
--- ---- the mark at order 0, by the two tests
-abbrev markOf : Bool → Bool → ℕ
-markOf true true = 2
-markOf true false = 0
-markOf false outside = 1
-
-mark-is : (t u : Bool) (p : Point) → p .mark ≡ 0 → cond t (cond (true && u) (empty 2) p) (empty 1) .mark ≡ markOf t u
-mark-is true true p e = refl
-mark-is true false p e = e
-mark-is false u p e = refl
-
-two-both : (t u : Bool) → markOf t u ≡ 2 → (t && u) ≡ true
-two-both true true e = refl
-two-both true false e = absurd (eqb-false 0 2 refl e)
-two-both false u e = absurd (eqb-false 1 2 refl e)
-
-both-two : (t u : Bool) → (t && u) ≡ true → markOf t u ≡ 2
-both-two true true e = refl
-both-two true false e = absurd (true≢false (sym e))
-both-two false u e = absurd (true≢false (sym e))
-
+-- ---- refusal 9 at an output index, by the coordinate and the first neighbour at hand
 module _ (mode : BorderMode) (a : Axis) (i : ℕ) where
-  mark-at : pointAt 0 mode a i .mark ≡ markOf (kept (settled mode a i)) (outside 0 (a .len) (firstNeighbour 0 (settled mode a i)))
-  unfolding pointAt keptPoint
-  mark-at = mark-is (kept (settled mode a i)) (outside 0 (a .len) (firstNeighbour 0 (settled mode a i))) (record { mark = 0; weight = buildSplines 0 (settled mode a i); at = neighbours mode 0 (a .len) (firstNeighbour 0 (settled mode a i)) }) refl
-
-  pub beside-mark : besideAt mode a i ≡ true → pointAt 0 mode a i .mark ≡ 2
-  unfolding besideAt
-  beside-mark e = mark-at ∙ both-two (kept (settled mode a i)) (outside 0 (a .len) (firstNeighbour 0 (settled mode a i))) e
-
-  pub mark-beside : pointAt 0 mode a i .mark ≡ 2 → besideAt mode a i ≡ true
-  unfolding besideAt
-  mark-beside e = two-both (kept (settled mode a i)) (outside 0 (a .len) (firstNeighbour 0 (settled mode a i))) (sym mark-at ∙ e)
-
-  -- by the coordinate and the first neighbour at hand
   pub beside-by : {to first : Float} → to ≡ settled mode a i → kept to ≡ true → first ≡ firstNeighbour 0 to → outside 0 (a .len) first ≡ besideAt mode a i
   unfolding besideAt
   beside-by {to} {first} e t f = ap (λ (b : Bool). b && outside 0 (a .len) first) (sym t) ∙ (λ j. kept (e j) && outside 0 (a .len) ((f ∙ ap (λ (x : Float). firstNeighbour 0 x) e) j))

@@ -6,6 +6,7 @@ use lib.Dec.{leb, eqb}
 use lib.ListN.{replicate}
 use lib.Ieee.{Float}
 use Rattle.exact.specs.Rounded.{num}
+use Rattle.lists.specs.Some.{someBelow}
 use Rattle.lists.specs.Tabulate.{tabulate}
 use Rattle.border.specs.declared.BorderMode.{BorderMode}
 use Rattle.axis.specs.declared.coordinate.Axis.{Axis}
@@ -38,3 +39,8 @@ pointAt order mode a i = cond (kept (settled mode a i)) (keptPoint order mode (a
 unfoldable pub besideAt : BorderMode → Axis → ℕ → Bool
 unfolding settled firstNeighbour
 besideAt mode a i = kept (settled mode a i) && outside 0 (a .len) (firstNeighbour 0 (settled mode a i))
+
+-- and some output index of the axis has
+unfoldable pub someBeside : BorderMode → Axis → Bool
+unfolding someBelow besideAt
+someBeside mode a = someBelow (besideAt mode a) (a .out)

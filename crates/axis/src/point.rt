@@ -1,10 +1,9 @@
 // The record of an output index: weights and neighbours, with its mark.
 ghost use mathlib.Core.Path.{_≡_};
-ghost use mathlib.Core.Bool.{true, false};
 ghost use Prim.Native.Nat.{ℕ, _≤_, _<_};
 ghost use Rattle.axis.specs.Neighbours.{firstNeighbour, outside, splineMode, neighbour, neighbourIndex};
 ghost use Rattle.axis.specs.Bookkeeping.{Indexes};
-ghost use Rattle.axis.specs.Point.{pointAt, keptPoint, neighbours, besideAt};
+ghost use Rattle.axis.specs.Point.{pointAt, keptPoint, neighbours, besideAt, someBeside};
 ghost use Rattle.axis.specs.Bookkeeping.{Reached, Kept};
 use crate::coordinate::Axis;
 use crate::coordinate::float_of;
@@ -134,8 +133,7 @@ fn is_beside(a: Axis, i: usize, mode: BorderMode) -> bool
 
 // Whether it would at some output index: refusal 9 stands on it.
 pub fn some_beside(a: Axis, mode: BorderMode) -> bool
-    ensures found { λ r. ⌜ (r ≡ true → (i : ℕ) × (i < a .out) × (pointAt 0 mode a i .mark ≡ 2)) ⌝ }
-    ensures none { λ r. ⌜ (r ≡ false → (i : ℕ) → i < a .out → pointAt 0 mode a i .mark ≡ 2 → ⊥) ⌝ }
+    ensures { λ r. ⌜ r ≡ someBeside mode a ⌝ }
 {
     let n = a.out;
     let mut i = 0;

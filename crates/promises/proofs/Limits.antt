@@ -9,9 +9,8 @@ use Rattle.border.specs.Fold.{fold, foldConstant}
 use Rattle.axis.specs.Coordinate.{coordinate, settled}
 use Rattle.axis.specs.Length.{outputLength}
 use Rattle.axis.specs.Neighbours.{firstNeighbour}
-use Rattle.axis.specs.Point.{besideAt}
+use Rattle.axis.specs.Point.{besideAt, someBeside}
 use Rattle.axis.specs.Weights.{base}
-use Rattle.request.specs.Conditions.{someBeside}
 use Rattle.promises.specs.Limits.{sides, right}
 
 pub sides-right : T (every right sides)

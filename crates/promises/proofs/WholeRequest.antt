@@ -17,13 +17,13 @@ use Rattle.border.specs.declared.BorderMode.the-variants.{Constant}
 use Rattle.axis.specs.declared.coordinate.Axis.{Axis}
 use Rattle.axis.specs.declared.point.Point.{Point}
 use Rattle.axis.specs.Coordinate.{shiftAxis, isNearest}
-use Rattle.axis.specs.Point.{pointAt, besideAt}
+use Rattle.axis.specs.Point.{pointAt, besideAt, someBeside}
 use Rattle.coverage.specs.Coverage.{keptAt}
 use Rattle.prefilter.specs.Volume.{filterVolume}
 use Rattle.request.specs.declared.Request.{Request}
 use Rattle.request.specs.Sizes.{filters, padding, sourceDims}
 use Rattle.request.specs.Bookkeeping.{Lengths}
-use Rattle.request.specs.Conditions.{wild, wildFill, someWild, someBeside, besideAny}
+use Rattle.request.specs.Conditions.{wild, wildFill, someWild, besideAny}
 use Rattle.refusal.specs.Refusals.{shiftChecks}
 use Rattle.request.proofs.Requests.{none-at, or-false, not-both, good-lengths}
 use Rattle.resample.specs.Call.{numberIn, sourceOf, coefficients, shiftCall}

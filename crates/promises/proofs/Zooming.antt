@@ -10,13 +10,13 @@ use lib.Ieee.{Float}
 use Rattle.lists.proofs.Somes.{some-none}
 use Rattle.axis.specs.declared.coordinate.Axis.{Axis}
 use Rattle.axis.specs.Coordinate.{zoomAxis}
-use Rattle.axis.specs.Point.{besideAt}
+use Rattle.axis.specs.Point.{besideAt, someBeside}
 use Rattle.coverage.specs.declared.counts.Counts.{Counts}
 use Rattle.coverage.specs.Coverage.{codeAt, keptAt}
 use Rattle.request.specs.declared.Request.{Request}
 use Rattle.request.specs.Sizes.{padding, zoomDims, zoomAxes}
 use Rattle.request.specs.Bookkeeping.{Lengths}
-use Rattle.request.specs.Conditions.{someBeside, besideAny}
+use Rattle.request.specs.Conditions.{besideAny}
 use Rattle.request.proofs.Requests.{pad-most, good-lengths}
 use Rattle.resample.specs.Call.{numberIn, countsIn, zoomCall}
 use Rattle.promises.specs.Entries.{zooming, outputDims}

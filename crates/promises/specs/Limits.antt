@@ -7,7 +7,8 @@ use Rattle.exact.specs.Rounded.{_⊕_, _⊘_, num, half}
 use Rattle.border.specs.declared.BorderMode.the-variants.{Constant, Mirror, Nearest, Reflect, Wrap}
 use Rattle.axis.specs.Coordinate.{shiftAxis}
 use Rattle.axis.specs.Length.{outputLength}
-use Rattle.request.specs.Conditions.{badOrder, badFilterOrder, badAxisNumber, badLength, badShift, badZoom, tooLarge, wrong, tooShort, wild, wildFill, someBeside}
+use Rattle.axis.specs.Point.{someBeside}
+use Rattle.request.specs.Conditions.{badOrder, badFilterOrder, badAxisNumber, badLength, badShift, badZoom, tooLarge, wrong, tooShort, wild, wildFill}
 
 -- what a test says, and whether it is to refuse
 pub data Side : Type 0 where

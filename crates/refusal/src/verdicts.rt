@@ -7,6 +7,7 @@ ghost use Rattle.request.specs.Conditions.{tooLarge, wrong, wildFill, someWild,
 ghost use Rattle.refusal.specs.Refusals.{first, resampleChecks, shiftChecks, zoomChecks, filterChecks, splineFilterChecks, splineFilter1dChecks};
 use crate::Refusal;
 use crate::Verdict;
+use axis::point::some_beside;
 use border::BorderMode;
 use limits::MOST_PLACES;
 use request::Axes;
@@ -14,7 +15,6 @@ use request::Request;
 use request::conditions::bad_lengths;
 use request::conditions::bad_shifts;
 use request::conditions::bad_zooms;
-use request::conditions::is_beside;
 use request::conditions::some_wild;
 use request::conditions::wild_fill;
 use request::sizes::count_of;
@@ -81,13 +81,13 @@ fn beside_any(r: Request, a: Axes) -> bool
         return false;
     }
     let mode = r.mode;
-    if is_beside(a.x, mode) {
+    if some_beside(a.x, mode) {
         return true;
     }
-    if is_beside(a.y, mode) {
+    if some_beside(a.y, mode) {
         return true;
     }
-    is_beside(a.z, mode)
+    some_beside(a.z, mode)
 }
 
 // Refusals 6 to 9 of shift and zoom.

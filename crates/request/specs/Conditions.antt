@@ -10,8 +10,7 @@ use Rattle.limits.specs.Limits.{longest, mostPlaces}
 use Rattle.lists.specs.Some.{someBelow}
 use Rattle.border.specs.declared.BorderMode.{BorderMode}
 use Rattle.border.specs.declared.BorderMode.the-variants.{Constant, Mirror, Nearest, Reflect, Wrap}
-use Rattle.axis.specs.declared.coordinate.Axis.{Axis}
-use Rattle.axis.specs.Point.{besideAt}
+use Rattle.axis.specs.Point.{someBeside}
 use Rattle.request.specs.declared.Axes.{Axes}
 use Rattle.request.specs.declared.Request.{Request}
 
@@ -73,10 +72,6 @@ unfolding someBelow
 someWild input = someBelow (λ i. wild (getD input i nan)) (length input)
 
 -- "at order 0 some axis has a coordinate that is kept but rounds to an index outside that axis"
-unfoldable pub someBeside : BorderMode → Axis → Bool
-unfolding someBelow besideAt
-someBeside mode a = someBelow (besideAt mode a) (a .out)
-
 unfoldable pub besideAny : Request → Axes → Bool
 unfolding someBeside
 besideAny r a = eqb (r .order) 0 && (someBeside (r .mode) (a .x) || someBeside (r .mode) (a .y) || someBeside (r .mode) (a .z))

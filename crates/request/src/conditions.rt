@@ -1,8 +1,6 @@
 // The conditions of the refusals.
 ghost use mathlib.Core.Path.{_≡_};
-ghost use Rattle.request.specs.Conditions.{badLength, badLengths, badShift, badZoom, badFactors, wild, wildFill, someWild, someBeside};
-use axis::coordinate::Axis;
-use axis::point::some_beside;
+ghost use Rattle.request.specs.Conditions.{badLength, badLengths, badShift, badZoom, badFactors, wild, wildFill, someWild};
 use border::BorderMode;
 use limits::LONGEST;
 
@@ -107,10 +105,4 @@ pub fn some_wild(input: &[f64]) -> bool
         i += 1;
     }
     false
-}
-
-pub fn is_beside(a: Axis, mode: BorderMode) -> bool
-    ensures { λ r. ⌜ r ≡ someBeside mode a ⌝ }
-{
-    some_beside(a, mode)
 }
