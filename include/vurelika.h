@@ -15,8 +15,8 @@
  *   the register MXCSR on x86-64, FPCR on Arm. A program linked with -ffast-math may flush subnormal
  *   numbers from its start on. In another environment values, codes and counts may be other ones.
  *
- * A call allocates nothing, takes about 405 kB of stack, and uses nothing but what it is given: calls
- * from several threads do not disturb each other as long as they are lent different buffers to write.
+ * A call allocates nothing, takes at most about 405 kB of stack, and uses nothing but what it is given:
+ * calls from several threads do not disturb each other as long as they are lent different buffers to write.
  */
 #ifndef VURELIKA_H
 #define VURELIKA_H

@@ -2,8 +2,8 @@
 //! filled: a safe layer over the proved library `libvurelika.a`.
 //!
 //! A volume is a flat slice, last index fastest. A call ends in success or in one of nine
-//! [refusals](Refusal), whatever numbers and slices it is given; it does not panic. It takes about
-//! 405 kB of stack. As all of Rust it counts on the default floating-point environment: numbers are
+//! [refusals](Refusal), whatever numbers and slices it is given; it does not panic. It takes at most
+//! about 405 kB of stack. As all of Rust it counts on the default floating-point environment: numbers are
 //! rounded to nearest, subnormal numbers are kept. C code in the same program may have changed it, by
 //! `fesetround` or by being linked with `-ffast-math`; values, codes and counts may then be other ones.
 //!
