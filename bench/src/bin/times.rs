@@ -6,10 +6,12 @@ use std::time::{Duration, Instant};
 use bench::{voxels_of, Call, Entry, Lent, SciPy};
 use ndarray_ndimage::BorderMode::{self, Mirror, Nearest, Reflect};
 
-/// A call gets this many turns, or as many as begin within `PATIENCE`, but no fewer than `FEWEST`.
+/// A call gets this many turns, or as many as begin within `PATIENCE`, but no fewer than `FEWEST`, nor
+/// than begin within `AT_LEAST`.
 const TURNS: u32 = 21;
 const FEWEST: u32 = 5;
 const PATIENCE: Duration = Duration::from_secs(4);
+const AT_LEAST: Duration = Duration::from_millis(50);
 
 /// The best times of a call, its turns, and the voxels that it writes. SciPy may not be there.
 struct Times {
@@ -32,7 +34,8 @@ fn main() {
     for mode in [Mirror, Reflect, Nearest] {
         ratios(&mut scipy, Entry::Shift, &[2, 3, 4, 5], mode, true);
     }
-    sizes(&mut scipy);
+    sizes(&mut scipy, [48, 96, 144]);
+    sizes(&mut scipy, [4, 8, 16]);
 }
 
 fn ratios(
@@ -72,17 +75,19 @@ fn ratios(
     }
 }
 
-/// Time grows as the voxels do: what one voxel takes at three sizes.
-fn sizes(scipy: &mut Option<SciPy>) {
+/// What one voxel takes at three sizes.
+fn sizes(scipy: &mut Option<SciPy>, sides: [usize; 3]) {
     println!("\nShift, Mirror: ns a voxel, ours, the Rust's and SciPy's");
-    println!(
-        "order  prefilter                  48^3                   96^3                  144^3"
-    );
+    print!("order  prefilter");
+    for side in sides {
+        print!("{:>22}^3", side);
+    }
+    println!();
     let off = (0..=5).map(|order| (order, false));
     let on_too = (2..=5).map(|order| (order, true));
     for (order, prefilter) in off.chain(on_too) {
         print!("{order:5}  {:9}", on(prefilter));
-        for side in [48, 96, 144] {
+        for side in sides {
             let call = Call {
                 entry: Entry::Shift,
                 side,
@@ -92,7 +97,7 @@ fn sizes(scipy: &mut Option<SciPy>) {
             };
             let times = measure(scipy, &call);
             let each = |time: Duration| 1e9 * time.as_secs_f64() / times.voxels as f64;
-            print!("{:8.1}{:7.1}", each(times.ours), each(times.rust));
+            print!("{:8.1}{:8.1}", each(times.ours), each(times.rust));
             match times.scipy {
                 Some(scipy) => print!("{:8.1}", each(scipy)),
                 None => print!("{:>8}", "-"),
@@ -124,7 +129,10 @@ fn measure(scipy: &mut Option<SciPy>, call: &Call) -> Times {
         voxels: lent.output.len(),
     };
     let began = Instant::now();
-    while best.turns < FEWEST || best.turns < TURNS && began.elapsed() < PATIENCE {
+    while best.turns < FEWEST
+        || best.turns < TURNS && began.elapsed() < PATIENCE
+        || began.elapsed() < AT_LEAST
+    {
         let (ours, ()) = timed(|| lent.call(voxels_of(&data)));
         let (rust, volume) = timed(|| call.rust(&data));
         assert!(
