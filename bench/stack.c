@@ -13,23 +13,53 @@ enum { NEAR = 2, FAR = 4096, EDGES = 24, VOXELS = NEAR * NEAR * FAR };
 enum { WORK = (NEAR + EDGES) * (NEAR + EDGES) * (FAR + EDGES) };
 enum { STACK = 4 << 20, PAINT = 0xA5 };
 
+static double input[VOXELS], output[VOXELS], work[WORK];
+static uint8_t coverage[VOXELS];
+static uint64_t counts[3];
+
 struct call {
     const char *name;
+    uint32_t (*make)(const struct call *);
     size_t order;
     uint32_t prefilter, mode;
 };
 
-static const struct call calls[] = {
-    {"order 0, Mirror", 0, 0, 1},
-    {"order 1, Mirror", 1, 0, 1},
-    {"order 5, Mirror", 5, 0, 1},
-    {"order 5, Mirror, prefilter", 5, 1, 1},
-    {"order 5, Nearest, prefilter", 5, 1, 2},
-};
+static uint32_t shift(const struct call *call)
+{
+    return vurelika_shift(NEAR, NEAR, FAR, 0.3, -0.4, 1.4, call->order, call->prefilter, call->mode, 0.0,
+                          input, VOXELS, output, VOXELS, coverage, VOXELS, work, WORK, counts, 3);
+}
 
-static double input[VOXELS], output[VOXELS], work[WORK];
-static uint8_t coverage[VOXELS];
-static uint64_t counts[3];
+/* By factors that leave the lengths as they are. */
+static uint32_t zoom(const struct call *call)
+{
+    return vurelika_zoom(NEAR, NEAR, FAR, 1.1, 0.9, 1.0, call->order, call->prefilter, call->mode, 0.0,
+                         input, VOXELS, output, VOXELS, coverage, VOXELS, work, WORK, counts, 3);
+}
+
+static uint32_t filter(const struct call *call)
+{
+    return vurelika_spline_filter(NEAR, NEAR, FAR, call->order, call->mode, 0.0, input, VOXELS, output,
+                                  VOXELS);
+}
+
+static uint32_t filter1d(const struct call *call)
+{
+    return vurelika_spline_filter1d(NEAR, NEAR, FAR, call->order, 2, call->mode, 0.0, input, VOXELS, output,
+                                    VOXELS);
+}
+
+static const struct call calls[] = {
+    {"shift, order 0", shift, 0, 0, VURELIKA_MIRROR},
+    {"shift, order 1", shift, 1, 0, VURELIKA_MIRROR},
+    {"shift, order 5", shift, 5, 0, VURELIKA_MIRROR},
+    {"shift, order 5, prefilter", shift, 5, 1, VURELIKA_MIRROR},
+    {"the same, Nearest", shift, 5, 1, VURELIKA_NEAREST},
+    {"zoom, order 5, prefilter", zoom, 5, 1, VURELIKA_MIRROR},
+    {"the same, Nearest", zoom, 5, 1, VURELIKA_NEAREST},
+    {"spline_filter, order 5", filter, 5, 0, VURELIKA_MIRROR},
+    {"spline_filter1d, order 5", filter1d, 5, 0, VURELIKA_MIRROR},
+};
 
 static void *do_nothing(void *argument)
 {
@@ -40,9 +70,8 @@ static void *do_nothing(void *argument)
 static void *make_call(void *argument)
 {
     const struct call *call = argument;
-    uint32_t refusal = vurelika_shift(NEAR, NEAR, FAR, 0.3, -0.4, 1.4, call->order, call->prefilter,
-        call->mode, 0.0, input, VOXELS, output, VOXELS, coverage, VOXELS, work, WORK, counts, 3);
-    return refusal == 0 ? argument : NULL;
+
+    return call->make(call) == VURELIKA_DONE ? argument : NULL;
 }
 
 /* How far from its top the stack of a thread was written. An attribute record is no smaller on Arm,
@@ -74,7 +103,7 @@ int main(void)
 {
     size_t thread = depth(do_nothing, &calls[0]);
 
-    printf("\nShift, %d x %d x %d: bytes of stack\n", NEAR, NEAR, FAR);
+    printf("\n%d x %d x %d, Mirror unless said: bytes of stack\n", NEAR, NEAR, FAR);
     for (size_t i = 0; i < sizeof calls / sizeof calls[0]; i++)
         printf("%-28s%9zu\n", calls[i].name, depth(make_call, &calls[i]) - thread);
     return 0;

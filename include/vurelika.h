@@ -3,12 +3,20 @@
  *
  * A volume of d0 by d1 by d2 voxels is a flat buffer, last index fastest: the voxel x, y, z stands at
  * (x * d1 + y) * d2 + z. Every buffer is the caller's, given as a pointer and its number of places, and
- * is not kept after the call. Buffers must not overlap, and a pointer must be good for its number of
- * places (a buffer of 0 places may be NULL); that is all that a caller has to see to. Any numbers and any lengths are answered: a call
- * ends in success or in one of the nine refusals below.
+ * is not kept after the call. Any numbers and any lengths are answered: a call ends in success or in a
+ * refusal (below).
  *
- * A call allocates nothing, takes about 400 kB of stack, and uses nothing but what it is given: calls
- * from several threads do not disturb each other as long as they are lent different buffers to write.
+ * The caller sees to this:
+ * - A pointer is good for its number of places, and aligned for its type as C asks. A buffer of 0
+ *   places may be NULL.
+ * - Buffers do not overlap.
+ * - The floating-point environment is in its default state: numbers are rounded to nearest
+ *   (fesetround(FE_TONEAREST)), subnormal numbers are kept (neither FTZ nor DAZ), nothing traps. It is
+ *   the register MXCSR on x86-64, FPCR on Arm. A program linked with -ffast-math may flush subnormal
+ *   numbers from its start on. In another environment values, codes and counts may be other ones.
+ *
+ * A call allocates nothing, takes at most about 405 kB of stack, and uses nothing but what it is given:
+ * calls from several threads do not disturb each other as long as they are lent different buffers to write.
  */
 #ifndef VURELIKA_H
 #define VURELIKA_H
@@ -31,9 +39,11 @@ enum {
     VURELIKA_WRAP = 4
 };
 
-/* What a function returns: 0, or the first that applies of these, in this order. */
+/* What a function returns: 0, or the first of these that applies, in the order in which they stand.
+ * VURELIKA_MODE comes before the nine refusals and is none of them: no request could be formed. */
 enum {
     VURELIKA_DONE = 0,
+    VURELIKA_MODE = 255,        /* the mode is none of the five */
     VURELIKA_ORDER = 1,         /* the order is above 5; for vurelika_spline_filter also 0 or 1 */
     VURELIKA_AXIS = 2,          /* vurelika_spline_filter1d: the axis is above 2 */
     VURELIKA_LENGTH = 3,        /* an input axis is shorter than 2 or longer than 4,096 */
@@ -43,11 +53,22 @@ enum {
     VURELIKA_COUNT = 6,         /* input, output or needed work has more than 2^27 places */
     VURELIKA_BUFFER = 7,        /* a buffer has the wrong number of places */
     VURELIKA_VALUE = 8,         /* the fill or a voxel is not finite, or its size exceeds 2^100 */
-    VURELIKA_BESIDE = 9,        /* order 0: a coordinate is kept, but its nearest voxel lies outside */
-    VURELIKA_MODE = 255         /* the mode is none of the five: no request could be formed */
+    VURELIKA_BESIDE = 9         /* order 0: a coordinate is kept, but its nearest voxel lies outside */
 };
 
-/* What coverage says of a voxel. */
+/* What coverage says of a voxel.
+ *
+ * In Constant code 0 says that its place lay in the scan: on each axis from 0 up to, not including, the
+ * length. In the other modes it does not say so: a place beyond the scan is folded back into it and
+ * computed there. After a shift by 13.5 on an axis of 20, 14 planes come from before the scan: Constant
+ * calls 6 of the 20 computed, Nearest 7, and Mirror, Reflect and Wrap all of them. In every mode a voxel
+ * near an edge may blend in a neighbour that was folded back.
+ *
+ * So for a density choose Constant, and leave out what was not computed (where counts[0] is not 0):
+ *
+ *     for (i = 0; i < voxels; i++) if (coverage[i] == VURELIKA_COMPUTED) sum += output[i];
+ *     mean = sum / counts[VURELIKA_COMPUTED];
+ */
 enum {
     VURELIKA_COMPUTED = 0,      /* computed from input voxels */
     VURELIKA_FILLED = 1,        /* outside, in Constant: it holds the fill, bit for bit */
@@ -63,8 +84,9 @@ enum {
  *
  * On success output and coverage are written fully, work begins with the filtered coefficients, and
  * counts says how many voxels bear the codes 0, 1 and 2; the three add up to the output's number of
- * places. On refusal output, coverage and work hold what they held, and counts is 0, 0, 0 (where it
- * has 3 places; else it is left alone, and the answer is VURELIKA_BUFFER or an earlier one). */
+ * places. On any other answer output, coverage and work hold what they held, and counts is 0, 0, 0.
+ * counts of another length than 3 is left alone: the answer is then VURELIKA_BUFFER, or what comes
+ * before it, VURELIKA_MODE among them. */
 uint32_t vurelika_shift(size_t d0, size_t d1, size_t d2, double f0, double f1, double f2,
                         size_t order, uint32_t prefilter, uint32_t mode, double fill,
                         const double *input, size_t input_len, double *output, size_t output_len,
@@ -93,8 +115,10 @@ uint32_t vurelika_spline_filter1d(size_t d0, size_t d1, size_t d2, size_t order,
 /* The length of an axis that is zoomed by a factor; 0 where zoom would refuse it (refusals 3 to 5). */
 size_t vurelika_zoom_length(size_t length, double factor);
 
-/* How many places of work vurelika_shift and vurelika_zoom need; 0 where they refuse whatever work is
- * (refusals 1 and 3, and 255). */
+/* How many places of work vurelika_shift and vurelika_zoom need. 0 means one of two things: they need
+ * none, which is so without prefilter and below order 2; or they refuse whatever work is (VURELIKA_MODE,
+ * VURELIKA_ORDER, VURELIKA_LENGTH). Later refusals are not looked for, so it may be more than any call
+ * takes: for 4,096 by 4,096 by 4,096 voxels with prefilter 2^36, where a call gives VURELIKA_COUNT. */
 size_t vurelika_work_count(size_t d0, size_t d1, size_t d2, size_t order, uint32_t prefilter,
                            uint32_t mode);
 

@@ -1,4 +1,5 @@
-/* Resamples the small volume of document 01 in nine ways: values, codes, counts. */
+/* Resamples the small volume of document 01 in nine ways: values, codes, counts.
+ * usage: vurelika demo */
 #include <inttypes.h>
 #include <stdio.h>
 #include <string.h>
@@ -72,16 +73,12 @@ static void say_volume(const char *name, const double *values, const uint8_t *co
     }
 }
 
-int main(int argc, char **argv)
+int main(void)
 {
     double volume[VOXELS], output[ROOM];
     uint8_t coverage[ROOM];
     uint64_t counts[3];
 
-    if (argc > 1) {
-        fprintf(stderr, "vurelika: demo takes no word, and was given '%s'\n", argv[1]);
-        return 2;
-    }
     for (size_t i = 0; i < VOXELS; i++)
         volume[i] = 10.0 * (double)(i % LENGTH + 1);
 

@@ -6,18 +6,31 @@ use std::time::{Duration, Instant};
 use bench::{voxels_of, Call, Entry, Lent, SciPy};
 use ndarray_ndimage::BorderMode::{self, Mirror, Nearest, Reflect};
 
-/// A call gets this many turns, or as many as begin within `PATIENCE`, but no fewer than `FEWEST`.
-const TURNS: u32 = 21;
-const FEWEST: u32 = 5;
-const PATIENCE: Duration = Duration::from_secs(4);
+/// All calls are made again after some minutes, so that a machine that is slow for a while does not
+/// spoil one of them.
+const ROUNDS: usize = 5;
 
-/// The best times of a call, its turns, and the voxels that it writes. SciPy may not be there.
-struct Times {
+/// In a round a call gets this many turns, or as many as begin within `PATIENCE`, but no fewer than
+/// `FEWEST`, nor than begin within `AT_LEAST`.
+const TURNS: usize = 21;
+const FEWEST: usize = 3;
+const PATIENCE: Duration = Duration::from_secs(2);
+const AT_LEAST: Duration = Duration::from_millis(50);
+
+/// A call, its best times so far and its turns. SciPy may not be there.
+struct Timed {
+    call: Call,
     ours: Duration,
     rust: Duration,
     scipy: Option<Duration>,
-    turns: u32,
-    voxels: usize,
+    turns: usize,
+}
+
+/// A table of the calls that it shows.
+struct Table {
+    title: String,
+    calls: Vec<Timed>,
+    print: fn(&[Timed]),
 }
 
 fn main() {
@@ -26,76 +39,95 @@ fn main() {
         Some(scipy) => println!("and against: {}", scipy.version),
         None => println!("SciPy is not here, and is not measured"),
     }
-    for entry in [Entry::Shift, Entry::Zoom] {
-        ratios(&mut scipy, entry, &[0, 1, 2, 3, 4, 5], Mirror, false);
+    let mut tables = vec![
+        ratios(Entry::Shift, Mirror, false),
+        ratios(Entry::Zoom, Mirror, false),
+        ratios(Entry::Shift, Mirror, true),
+        ratios(Entry::Shift, Reflect, true),
+        ratios(Entry::Shift, Nearest, true),
+        sizes([48, 96, 144]),
+        sizes([4, 8, 16]),
+    ];
+    for _ in 0..ROUNDS {
+        for timed in tables.iter_mut().flat_map(|table| &mut table.calls) {
+            timed.take_turns(&mut scipy);
+        }
     }
-    for mode in [Mirror, Reflect, Nearest] {
-        ratios(&mut scipy, Entry::Shift, &[2, 3, 4, 5], mode, true);
+    for table in tables {
+        println!("\n{}", table.title);
+        (table.print)(&table.calls);
     }
-    sizes(&mut scipy);
 }
 
-fn ratios(
-    scipy: &mut Option<SciPy>,
-    entry: Entry,
-    orders: &[usize],
-    mode: BorderMode<f64>,
-    prefilter: bool,
-) {
+fn ratios(entry: Entry, mode: BorderMode<f64>, prefilter: bool) -> Table {
     let side = 96;
-    println!(
-        "\n{entry:?}, {mode:?}, prefilter {}, {side}^3",
-        on(prefilter)
-    );
+    let orders = if prefilter { 2..=5 } else { 0..=5 };
+    let call = |order| Call {
+        entry,
+        side,
+        order,
+        mode,
+        prefilter,
+    };
+    Table {
+        title: format!("{entry:?}, {mode:?}, prefilter {}, {side}^3", on(prefilter)),
+        calls: orders.map(call).map(Timed::new).collect(),
+        print: print_ratios,
+    }
+}
+
+fn print_ratios(calls: &[Timed]) {
     println!("order   ours ms   Rust ms   ratio  SciPy ms   ratio   best of");
-    for &order in orders {
-        let call = Call {
-            entry,
-            side,
-            order,
-            mode,
-            prefilter,
-        };
-        let times = measure(scipy, &call);
-        print!("{order:5}{:10.2}", 1e3 * times.ours.as_secs_f64());
-        for other in [Some(times.rust), times.scipy] {
-            match other {
-                Some(other) => print!(
-                    "{:10.2}{:8.2}",
-                    1e3 * other.as_secs_f64(),
-                    times.ours.as_secs_f64() / other.as_secs_f64()
-                ),
-                None => print!("{:10}{:8}", "-", "-"),
+    for timed in calls {
+        let ours = timed.ours.as_secs_f64();
+        print!("{:5}{:10.2}", timed.call.order, 1e3 * ours);
+        for other in [Some(timed.rust), timed.scipy] {
+            match other.map(|other| other.as_secs_f64()) {
+                Some(other) => print!("{:10.2}{:8.2}", 1e3 * other, ours / other),
+                None => print!("{:>10}{:>8}", "-", "-"),
             }
         }
-        println!("{:10}", times.turns);
+        println!("{:10}", timed.turns);
     }
 }
 
-/// Time grows as the voxels do: what one voxel takes at three sizes.
-fn sizes(scipy: &mut Option<SciPy>) {
-    println!("\nShift, Mirror: ns a voxel, ours, the Rust's and SciPy's");
-    println!(
-        "order  prefilter                  48^3                   96^3                  144^3"
-    );
+/// What one voxel takes at three sizes, which stand beside each other in a row.
+fn sizes(sides: [usize; 3]) -> Table {
     let off = (0..=5).map(|order| (order, false));
     let on_too = (2..=5).map(|order| (order, true));
-    for (order, prefilter) in off.chain(on_too) {
-        print!("{order:5}  {:9}", on(prefilter));
-        for side in [48, 96, 144] {
-            let call = Call {
-                entry: Entry::Shift,
-                side,
-                order,
-                mode: Mirror,
-                prefilter,
-            };
-            let times = measure(scipy, &call);
-            let each = |time: Duration| 1e9 * time.as_secs_f64() / times.voxels as f64;
-            print!("{:8.1}{:7.1}", each(times.ours), each(times.rust));
-            match times.scipy {
-                Some(scipy) => print!("{:8.1}", each(scipy)),
-                None => print!("{:>8}", "-"),
+    let rows = off.chain(on_too);
+    let calls = rows.flat_map(|(order, prefilter)| {
+        sides.map(|side| Call {
+            entry: Entry::Shift,
+            side,
+            order,
+            mode: Mirror,
+            prefilter,
+        })
+    });
+    Table {
+        title: "Shift, Mirror: ns a voxel, ours, the Rust's and SciPy's".into(),
+        calls: calls.map(Timed::new).collect(),
+        print: print_sizes,
+    }
+}
+
+fn print_sizes(calls: &[Timed]) {
+    print!("order  prefilter");
+    for timed in &calls[..3] {
+        print!("{:>22}^3", timed.call.side);
+    }
+    println!();
+    for row in calls.chunks(3) {
+        let call = row[0].call;
+        print!("{:5}  {:9}", call.order, on(call.prefilter));
+        for timed in row {
+            let voxels = timed.call.side.pow(3) as f64;
+            for time in [Some(timed.ours), Some(timed.rust), timed.scipy] {
+                match time {
+                    Some(time) => print!("{:8.1}", 1e9 * time.as_secs_f64() / voxels),
+                    None => print!("{:>8}", "-"),
+                }
             }
         }
         println!();
@@ -110,35 +142,45 @@ fn on(prefilter: bool) -> &'static str {
     }
 }
 
-fn measure(scipy: &mut Option<SciPy>, call: &Call) -> Times {
-    let data = call.volume();
-    let mut lent = Lent::new(call);
-    if let Some(scipy) = scipy {
-        scipy.prepare(call);
-    }
-    let mut best = Times {
-        ours: Duration::MAX,
-        rust: Duration::MAX,
-        scipy: scipy.as_ref().map(|_| Duration::MAX),
-        turns: 0,
-        voxels: lent.output.len(),
-    };
-    let began = Instant::now();
-    while best.turns < FEWEST || best.turns < TURNS && began.elapsed() < PATIENCE {
-        let (ours, ()) = timed(|| lent.call(voxels_of(&data)));
-        let (rust, volume) = timed(|| call.rust(&data));
-        assert!(
-            bits(voxels_of(&volume)).eq(bits(&lent.output)),
-            "the values differ"
-        );
-        best.ours = best.ours.min(ours);
-        best.rust = best.rust.min(rust);
-        if let (Some(best), Some(scipy)) = (&mut best.scipy, scipy.as_mut()) {
-            *best = scipy.turn().min(*best);
+impl Timed {
+    fn new(call: Call) -> Timed {
+        Timed {
+            call,
+            ours: Duration::MAX,
+            rust: Duration::MAX,
+            scipy: None,
+            turns: 0,
         }
-        best.turns += 1;
     }
-    best
+
+    fn take_turns(&mut self, scipy: &mut Option<SciPy>) {
+        let data = self.call.volume();
+        let mut lent = Lent::new(&self.call);
+        if let Some(scipy) = scipy {
+            scipy.prepare(&self.call);
+        }
+        let began = Instant::now();
+        let mut turns = 0;
+        while turns < FEWEST
+            || turns < TURNS && began.elapsed() < PATIENCE
+            || began.elapsed() < AT_LEAST
+        {
+            let (ours, ()) = timed(|| lent.call(voxels_of(&data)));
+            let (rust, volume) = timed(|| self.call.rust(&data));
+            assert!(
+                bits(voxels_of(&volume)).eq(bits(&lent.output)),
+                "the values differ"
+            );
+            self.ours = self.ours.min(ours);
+            self.rust = self.rust.min(rust);
+            if let Some(scipy) = scipy {
+                let turn = scipy.turn();
+                self.scipy = Some(self.scipy.map_or(turn, |best| best.min(turn)));
+            }
+            turns += 1;
+        }
+        self.turns += turns;
+    }
 }
 
 fn timed<T>(task: impl FnOnce() -> T) -> (Duration, T) {

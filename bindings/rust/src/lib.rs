@@ -2,8 +2,10 @@
 //! filled: a safe layer over the proved library `libvurelika.a`.
 //!
 //! A volume is a flat slice, last index fastest. A call ends in success or in one of nine
-//! [refusals](Refusal), whatever numbers and slices it is given; it does not panic. It takes about
-//! 400 kB of stack.
+//! [refusals](Refusal), whatever numbers and slices it is given; it does not panic. It takes at most
+//! about 405 kB of stack. As all of Rust it counts on the default floating-point environment: numbers are
+//! rounded to nearest, subnormal numbers are kept. C code in the same program may have changed it, by
+//! `fesetround` or by being linked with `-ffast-math`; values, codes and counts may then be other ones.
 //!
 //! ```
 //! use vurelika::{shift, BorderMode, Request, COMPUTED, FILLED};
@@ -20,6 +22,11 @@
 //! assert_eq!(moved.voxels[..4], [-1.0, 10.0, 20.0, 30.0]);
 //! assert_eq!(moved.coverage[..4], [FILLED, COMPUTED, COMPUTED, COMPUTED]);
 //! assert_eq!((moved.counts.computed, moved.counts.filled), (12, 4));
+//!
+//! // A density is that of the voxels that were computed; in Constant these come from inside the scan.
+//! let marked = moved.voxels.iter().zip(&moved.coverage);
+//! let sum: f64 = marked.filter(|(_, &code)| code == COMPUTED).map(|(voxel, _)| voxel).sum();
+//! assert_eq!(sum / moved.counts.computed as f64, 20.0);
 //! # Ok::<(), vurelika::Refusal>(())
 //! ```
 
@@ -30,6 +37,12 @@ use door::Entry;
 pub use refusal::Refusal;
 
 /// The code of a voxel that was computed from input voxels.
+///
+/// In mode Constant its place lay in the scan: on each axis from 0 up to, not including, the length. In
+/// the other modes this code does not say so: a place beyond the scan is folded back into it and
+/// computed there. After a shift by 13.5 on an axis of 20, 14 planes come from before the scan: Constant
+/// calls 6 of the 20 computed, Nearest 7, and Mirror, Reflect and Wrap all of them. In every mode a voxel
+/// near an edge may blend in a neighbour that was folded back. So for a density choose Constant.
 pub const COMPUTED: u8 = 0;
 
 /// The code of a voxel outside, in mode Constant: it holds the fill, bit for bit.

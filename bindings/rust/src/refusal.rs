@@ -56,8 +56,11 @@ impl Refusal {
     pub(crate) fn check(status: u32) -> Result<(), Refusal> {
         match status {
             0 => Ok(()),
-            // The library answers 0 to 9 to each of the five modes.
-            n => Err(Refusal::ALL[n as usize - 1]),
+            // To a mode that there is the library answers 0 or one of these.
+            n => Err(Refusal::ALL
+                .into_iter()
+                .find(|refusal| refusal.number() == n)
+                .expect("one of the nine refusals")),
         }
     }
 }

@@ -1,4 +1,4 @@
-//! Document 01's numbers to hold to, and the header that the crate repeats.
+//! Document 01's numbers to hold to.
 
 use vurelika::{
     shift, spline_filter1d, zoom, BorderMode, Counts, Refusal, Request, Resampled, COMPUTED,
@@ -104,21 +104,4 @@ fn coefficients_of_a_lane() -> Result<(), Refusal> {
         .collect();
     assert_eq!(bits, lane.repeat(4));
     Ok(())
-}
-
-#[test]
-fn the_header_says_the_same() {
-    let header = include_str!("../../../include/vurelika.h");
-    let says = |text: String| assert!(header.contains(&text), "vurelika.h has no {text}");
-    let names = "ORDER AXIS LENGTH FACTOR OUTPUT_LENGTH COUNT BUFFER VALUE BESIDE";
-    for (name, refusal) in names.split(' ').zip(Refusal::ALL) {
-        says(format!("VURELIKA_{name} = {},", refusal.number()));
-    }
-    says(format!("VURELIKA_COMPUTED = {COMPUTED},"));
-    says(format!("VURELIKA_FILLED = {FILLED},"));
-    says(format!("VURELIKA_DEFAULTED = {DEFAULTED} "));
-    says(format!(
-        "#define VURELIKA_VERSION \"{}\"",
-        env!("CARGO_PKG_VERSION")
-    ));
 }
