@@ -173,11 +173,9 @@ module _ (L : ℕ) (least : 2 ≤ L) (most : L ≤ 4120) {idx : Float} (D : Dyad
   multiple-lost : FarMultiple L idx → le (foldReflect idx (num L)) minus1 ≡ true
   unfolding fold
   multiple-lost f =
-      let n = 2 * L * f .k in
-      let z = negℤ (pos n) in
-      let size : D .u ≡ natAbs z * 2 ^ D .g = over-size (D .is) (f .is) in
-      let N : natAbs z ≤ 2 ^ 26 = le-of-mul-le-mul-right (le-trans (le-of-eq (sym size)) (D .bound)) (pow-pos (D .g)) in
-      le-is (fold-lands Reflect z L (f .is) (num-is L (omega arith)) least most (le-trans N (lit≤ tt)) .marked (record { k = f .k; far = f .far; even = refl })) (neg-is (num-is 1 (lit≤ tt)))
+      let size : D .u ≡ natAbs (f .n) * 2 ^ D .g = over-size (D .is) (f .is) in
+      let N : natAbs (f .n) ≤ 2 ^ 26 = le-of-mul-le-mul-right (le-trans (le-of-eq (sym size)) (D .bound)) (pow-pos (D .g)) in
+      le-is (fold-lands Reflect (f .n) L (f .is) (num-is L (omega arith)) least most (le-trans N (lit≤ tt)) .marked (f .even)) (neg-is (num-is 1 (lit≤ tt)))
 
   -- -2^-54 ≤ idx, with idx = -u / 2^g
   tiny : {u : ℕ} (g : ℕ) → Over (2 ^ g) idx true u → le (fin true 1 (negsuc 53)) idx ≡ leb (u * 2 ^ 54) (2 ^ g)
@@ -202,9 +200,13 @@ module _ (L : ℕ) (least : 2 ≤ L) (most : L ≤ 4120) {idx : Float} (D : Dyad
           let q = u / (2 * L * 2 ^ g) in
           let s : u * 1 ≡ 2 * L * q * 2 ^ g = mul-one u ∙ sym e ∙ sym (taken L least most g u S B) in
           record {
-            k = q;
-            far = lt-of-mul-lt-mul-right (2 * L * 2 ^ g) (lt-of-le-of-lt (le-of-eq (one-mul (2 * L * 2 ^ g))) (lt-of-lt-of-le l (le-of-eq (sym e))));
+            n = negℤ (pos (2 * L * q));
             is = record { sign = true; size = 2 * L * q; value = rescaled idx true u (2 ^ g) (2 * L * q) 1 (pow-pos g) s (h .value); number = refl };
+            even = record {
+              k = q;
+              far = lt-of-mul-lt-mul-right (2 * L * 2 ^ g) (lt-of-le-of-lt (le-of-eq (one-mul (2 * L * 2 ^ g))) (lt-of-lt-of-le l (le-of-eq (sym e))));
+              even = refl;
+            };
           }
 
       lost : le (foldReflect idx (num L)) minus1 ≡ true → Lost L idx
