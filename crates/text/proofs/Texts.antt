@@ -6,13 +6,13 @@ use native.Mathlib.Omega.{arith}
 use mathlib.Core.Path.{_≡_, refl, sym, ap, _∙_, subst}
 use mathlib.Core.Bool.{Bool, true, false, not, _&&_, cond, true≢false}
 use mathlib.Core.List.{List, [], _∷_}
-use lib.Dec.{ltb, leb}
+use lib.Dec.{eqb, ltb, leb}
 use borrow.Author.Tests.{eq-eqb, ne-eqb, lt-ltb, le-ltb, ltb-false, leb-true}
 use lib.ListN.{length, getD, drop, drop-of-length-le}
 use lib.Seq.{drop-cons, drop-length}
 use Rattle.text.specs.declared.Kind.{Kind}
 use Rattle.text.specs.declared.Kind.the-variants.{Digit}
-use Rattle.text.specs.Text.{isDigit, isQuote, isOf, past, expect, literal, quoted}
+use Rattle.text.specs.Text.{isDigit, isQuote, isOf, past, isAt, expect, literal, quoted, found}
 use Rattle.text.specs.Numeral.{limit, valueFrom, numeral, afterNumeral}
 
 -- ---- a number that is not 0
@@ -51,6 +51,21 @@ module _ (text : List ℕ) (at : ℕ) where
   pub past-end : (kind : Kind) → length text ≤ at → past kind (drop at text) ≡ drop at text
   unfolding past
   past-end kind h = rw (drop-of-length-le text {i = at} h)
+
+  pub is-there : (sign : ℕ) → at < length text → eqb (getD text at 0) sign ≡ isAt sign (drop at text)
+  unfolding isAt
+  is-there sign h = rw (sign-first h)
+
+  pub none-there : (sign : ℕ) → length text ≤ at → false ≡ isAt sign (drop at text)
+  unfolding isAt
+  none-there sign h = rw (drop-of-length-le text {i = at} h)
+
+  -- what is left is found, or not
+  pub some-left : at < length text → found (drop at text) ≡ true
+  some-left h = rw (sign-first h)
+
+  pub none-left : length text ≤ at → found (drop at text) ≡ false
+  none-left h = rw (drop-of-length-le text {i = at} h)
 
   -- nothing is left at the end
   pub lost : drop (length text) text ≡ []

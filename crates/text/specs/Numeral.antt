@@ -1,5 +1,6 @@
 -- Whole numbers in plain decimal: "0", or digits that do not begin with one.
 use Prim.Native.Nat.{ℕ, _+_, _-_, _*_, _^_, min}
+use Prim.Native.Char.{code}
 use mathlib.Core.Bool.{_&&_, cond}
 use mathlib.Core.List.{List, [], _∷_}
 use lib.Dec.{eqb, ltb}
@@ -13,7 +14,7 @@ limit = 2 ^ 60
 -- the digits that stand at the head of a text, read on from a number
 unfoldable pub valueFrom : ℕ → List ℕ → ℕ
 valueFrom n [] = n
-valueFrom n (x ∷ xs) = cond (isDigit x) (valueFrom (n * 10 + (x - 48)) xs) n
+valueFrom n (x ∷ xs) = cond (isDigit x) (valueFrom (n * 10 + (x - code "0")) xs) n
 
 -- the number that they write, or the limit
 unfoldable pub numeral : List ℕ → ℕ
@@ -23,4 +24,4 @@ numeral text = min (valueFrom 0 text) limit
 unfoldable pub afterNumeral : List ℕ → List ℕ
 unfolding past numeral
 afterNumeral [] = []
-afterNumeral (x ∷ xs) = cond (eqb x 48) xs (cond (isDigit x && ltb (numeral (x ∷ xs)) limit) (past Digit (x ∷ xs)) [])
+afterNumeral (x ∷ xs) = cond (eqb x (code "0")) xs (cond (isDigit x && ltb (numeral (x ∷ xs)) limit) (past Digit (x ∷ xs)) [])

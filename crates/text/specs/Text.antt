@@ -1,24 +1,31 @@
 -- Reading a text of bytes from left to right. Each step says what of the text is left behind it. Where the text does not go on as asked nothing is left, and from nothing no step reads on.
 use Prim.Native.Nat.{ℕ}
+use Prim.Native.Char.{code}
+use Prim.Native.String as String
+use Prim.Native.String.{String}
 use mathlib.Core.Bool.{Bool, true, false, not, _&&_, _||_, cond}
 use mathlib.Core.List.{List, [], _∷_}
 use lib.Dec.{eqb, ltb, leb}
 use Rattle.text.specs.declared.Kind.{Kind}
 use Rattle.text.specs.declared.Kind.the-variants.{Blank, Spacing, Digit}
 
+-- ---- a text in quotation marks, as bytes
+abbrev pub bytes : String → List ℕ
+bytes String.[] = []
+bytes (String._∷_ c cs) = code c ∷ bytes cs
+
 -- ---- signs, by kind
--- a space is 32, a tab 9, a newline 10; "0" is 48 and "9" is 57; ' is 39 and " is 34
 abbrev pub isBlank : ℕ → Bool
-isBlank x = eqb x 32 || eqb x 9
+isBlank x = eqb x (code " ") || eqb x (code "\t")
 
 abbrev pub isSpacing : ℕ → Bool
-isSpacing x = isBlank x || eqb x 10
+isSpacing x = isBlank x || eqb x (code "\n")
 
 abbrev pub isDigit : ℕ → Bool
-isDigit x = not (ltb x 48) && leb x 57
+isDigit x = not (ltb x (code "0")) && leb x (code "9")
 
 abbrev pub isQuote : ℕ → Bool
-isQuote x = eqb x 39 || eqb x 34
+isQuote x = eqb x (code "'") || eqb x (code "\"")
 
 abbrev pub isOf : Kind → ℕ → Bool
 isOf Blank x = isBlank x
@@ -31,7 +38,7 @@ past kind [] = []
 past kind (x ∷ xs) = cond (isOf kind x) (past kind xs) (x ∷ xs)
 
 -- ---- this sign, and these signs
-abbrev pub isAt : ℕ → List ℕ → Bool
+unfoldable pub isAt : ℕ → List ℕ → Bool
 isAt sign [] = false
 isAt sign (x ∷ xs) = eqb x sign
 

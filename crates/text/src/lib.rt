@@ -2,7 +2,7 @@
 // read. The end of the text also says that the text did not go on as asked.
 ghost use mathlib.Core.Path.{_≡_};
 ghost use lib.ListN.{drop};
-ghost use Rattle.text.specs.Text.{isBlank, isSpacing, isDigit, isQuote, isOf, past, expect, literal, quoted};
+ghost use Rattle.text.specs.Text.{isBlank, isSpacing, isDigit, isQuote, isOf, past, isAt, expect, literal, quoted};
 
 pub mod numeral;
 
@@ -73,6 +73,16 @@ pub fn past(text: &[u8], at: usize, kind: Kind) -> usize
         i += 1;
     }
     i
+}
+
+// Whether this sign stands at the place.
+pub fn is_at(text: &[u8], at: usize, sign: u8) -> bool
+    ensures { λ r. ⌜ r ≡ isAt sign (drop at (now (text .entry))) ⌝ }
+{
+    if at < text.len() {
+        return text[at] == sign;
+    }
+    false
 }
 
 // The place behind this sign.

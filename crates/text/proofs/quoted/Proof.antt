@@ -1,12 +1,12 @@
 -- `text::quoted` meets its contract.
+use mathlib.Core.Path.{sym, ap, _∙_}
+use lib.ListN.{getD}
+use native.Mathlib.Omega.{arith}
+use Rattle.text.specs.Text.{expect}
+use Rattle.text.proofs.Texts.{quoted-there, quoted-other, quoted-end}
 use borrow.Author.Needs.{needs}
 use Rattle.text.proofs.quoted.Statement.{statement}
 use Rattle.text.proofs.quoted.Tie as tie
-use Rattle.text.proofs.quoted.Reads as reads
-use Rattle.text.proofs.quoted.Lts as lts
-use Rattle.text.proofs.expect.Reads as expect-reads
-use Rattle.text.proofs.is_quote.Reads as is-quote-reads
-use Rattle.text.proofs.literal.Reads as literal-reads
 
 shared-slice-read-quote : tie.Need-shared-slice-read-quote
 shared-slice-read-quote c = search needs
@@ -24,13 +24,16 @@ expect-requires : tie.Need-expect-requires
 expect-requires c κs = search needs
 
 returns : tie.Need-returns
-returns c = ?
+returns c = 
+    let q = c .before .before in
+    let a = q .before .before .before .before .before .before .args in
+    c .expect .ensures ∙ ap (expect (getD (a .text .now) (a .at) 0)) (c .before .literal .ensures) ∙ sym (quoted-there (a .text .now) (a .at) (a .word .now) (omega arith) (sym (q .before .is-quote .ensures) ∙ q .if2 .taken))
 
 returns-2 : tie.Need-returns-2
-returns-2 c = ?
+returns-2 c = let a = c .before .before .before .before .before .before .args in quoted-other (a .text .now) (a .at) (a .word .now) (omega arith) (sym (c .before .is-quote .ensures) ∙ c .if2 .left)
 
 returns-3 : tie.Need-returns-3
-returns-3 c = ?
+returns-3 c = let a = c .before .before .before .args in quoted-end (a .text .now) (a .at) (a .word .now) (c .if1 .left)
 
 pub quoted-spec : {M : Type 1} → statement M
 quoted-spec =

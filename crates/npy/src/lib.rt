@@ -1,0 +1,2 @@
+// NumPy's .npy files: the reader and the writer.
+mod header;
