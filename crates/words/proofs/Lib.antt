@@ -1,0 +1,2 @@
+-- The laws of words and bytes.
+pub mod Numbers
