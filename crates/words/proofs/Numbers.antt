@@ -63,12 +63,12 @@ byte-back (b ∷ bytes) h =
     ap₂ _∷_ first (ap (bytesOf (length bytes)) rest ∙ byte-back bytes (λ i l. h (suc i) (suc-le-suc l)))
 
 -- ---- the front of a list, its rest, and two lists in a row
-below-take : (m k : ℕ) (l : List ℕ) → Below m l → Below m (take k l)
+pub below-take : (m k : ℕ) (l : List ℕ) → Below m l → Below m (take k l)
 below-take m k l h i lt =
     let within : (i < k) × (i < length l) = omega (arith, length-take k l) in
     subst (λ (x : ℕ). x < m) (sym (getD-take k l i 0 (within .0))) (h i (within .1))
 
-below-drop : (m k : ℕ) (l : List ℕ) → Below m l → Below m (drop k l)
+pub below-drop : (m k : ℕ) (l : List ℕ) → Below m l → Below m (drop k l)
 below-drop m k l h i lt = subst (λ (x : ℕ). x < m) (sym (getD-drop k l i 0)) (h (k + i) (omega (arith, length-drop k l)))
 
 below-append : (m : ℕ) (xs ys : List ℕ) → Below m xs → Below m ys → Below m (xs ++ ys)
