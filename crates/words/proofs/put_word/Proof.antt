@@ -7,9 +7,6 @@ use borrow.Author.Needs.{needs}
 use Rattle.words.proofs.Shifts.{none-put, next-put, all-put}
 use Rattle.words.proofs.put_word.Statement.{statement}
 use Rattle.words.proofs.put_word.Tie as tie
-use Rattle.words.proofs.put_word.Reads as reads
-use Rattle.words.proofs.put_word.Lts as lts
-use Rattle.words.proofs.low_byte.Reads as low-byte-reads
 
 low-byte-requires : tie.Need-low-byte-requires
 low-byte-requires c κs = search needs

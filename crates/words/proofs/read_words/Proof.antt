@@ -11,9 +11,6 @@ use Rattle.words.specs.Words.{wordOf, wordsOf}
 use Rattle.words.proofs.Numbers.{length-words, word-there}
 use Rattle.words.proofs.read_words.Statement.{statement}
 use Rattle.words.proofs.read_words.Tie as tie
-use Rattle.words.proofs.read_words.Reads as reads
-use Rattle.words.proofs.read_words.Lts as lts
-use Rattle.words.proofs.word_at.Reads as word-at-reads
 
 abbrev Inv-loop : tie.InvT-loop
 Inv-loop words₀ bytes i₀ words i = (length words ≡ length words₀) × Filled (λ (m : ℕ). wordOf (take 8 (drop (m * 8) bytes))) 0 words i

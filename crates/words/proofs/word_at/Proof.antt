@@ -6,9 +6,6 @@ use Rattle.words.proofs.Numbers.{Below}
 use Rattle.words.proofs.Shifts.{joined-first, joined}
 use Rattle.words.proofs.word_at.Statement.{statement}
 use Rattle.words.proofs.word_at.Tie as tie
-use Rattle.words.proofs.word_at.Reads as reads
-use Rattle.words.proofs.word_at.Lts as lts
-use Rattle.words.proofs.wide.Reads as wide-reads
 
 shared-slice-read-wide : tie.Need-shared-slice-read-wide
 shared-slice-read-wide c = search needs

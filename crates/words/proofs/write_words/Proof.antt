@@ -12,9 +12,6 @@ use Rattle.words.specs.Words.{allBytes}
 use Rattle.words.proofs.Numbers.{length-all, byte-there}
 use Rattle.words.proofs.write_words.Statement.{statement}
 use Rattle.words.proofs.write_words.Tie as tie
-use Rattle.words.proofs.write_words.Reads as reads
-use Rattle.words.proofs.write_words.Lts as lts
-use Rattle.words.proofs.put_word.Reads as put-word-reads
 
 abbrev Inv-loop : tie.InvT-loop
 Inv-loop bytes₀ words i₀ bytes i = (i ≤ length words) × Written (λ (m : ℕ). getD (allBytes 8 words) m 0) 0 8 (length words * 8) bytes i
