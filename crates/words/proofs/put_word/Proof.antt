@@ -1,4 +1,4 @@
--- `words::put_word` meets its contract.
+-- `words::put_word` meets its contract: the bytes are put one by one.
 use mathlib.Core.Path.{_∙_}
 use native.Mathlib.Omega.{arith}
 use lib.ListN.{length-set}
