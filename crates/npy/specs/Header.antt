@@ -81,11 +81,14 @@ isHeader text =
     let c = nextEntry b in
     eachOnce (keyAt a) (keyAt b) (keyAt c) && closes (afterComma (past Spacing (afterEntry c)))
 
--- the lengths, in the entry that has the key "shape"
-unfoldable pub lengthsOf : List ℕ → List ℕ
-unfolding keyAt valueAt firstEntry nextEntry lengthsIn
-lengthsOf text =
+-- the lengths stand in the entry that has the key "shape"
+unfoldable pub shapeEntry : List ℕ → List ℕ
+unfolding keyAt firstEntry nextEntry
+shapeEntry text =
     let a = firstEntry text in
     let b = nextEntry a in
-    let c = nextEntry b in
-    lengthsIn (valueAt (cond (eqb (keyAt a) 2) a (cond (eqb (keyAt b) 2) b c)))
+    cond (eqb (keyAt a) 2) a (cond (eqb (keyAt b) 2) b (nextEntry b))
+
+unfoldable pub lengthsOf : List ℕ → List ℕ
+unfolding valueAt lengthsIn shapeEntry
+lengthsOf text = lengthsIn (valueAt (shapeEntry text))

@@ -1,7 +1,7 @@
 // The text of a header, read over a slice and a place. The end of the text also says that it is no such text.
 ghost use mathlib.Core.Path.{_≡_};
 ghost use lib.ListN.{drop};
-ghost use Rattle.npy.specs.Header.{firstLength, nextLength, afterShape, lengthsIn, afterKey, keyAt, valueAt, afterValue, afterEntry, firstEntry, nextEntry, afterComma, closes, eachOnce, isHeader, lengthsOf};
+ghost use Rattle.npy.specs.Header.{firstLength, nextLength, afterShape, lengthsIn, afterKey, keyAt, valueAt, afterValue, afterEntry, firstEntry, nextEntry, afterComma, closes, eachOnce, isHeader, shapeEntry, lengthsOf};
 use text::Kind;
 use text::expect;
 use text::is_at;
@@ -154,17 +154,23 @@ pub fn is_header(text: &[u8]) -> bool
     false
 }
 
+// The entry that has the key "shape".
+fn shape_entry(text: &[u8]) -> usize
+    ensures { λ r. ⌜ drop r (now (text .entry)) ≡ shapeEntry (now (text .entry)) ⌝ }
+{
+    let a = first_entry(text);
+    if key_at(text, a) == 2 {
+        return a;
+    }
+    let b = next_entry(text, a);
+    if key_at(text, b) == 2 {
+        return b;
+    }
+    next_entry(text, b)
+}
+
 pub fn lengths_of(text: &[u8]) -> [usize; 3]
     ensures { λ r. ⌜ r ≡ lengthsOf (now (text .entry)) ⌝ }
 {
-    let a = first_entry(text);
-    let b = next_entry(text, a);
-    let c = next_entry(text, b);
-    if key_at(text, a) == 2 {
-        return lengths_in(text, value_at(text, a));
-    }
-    if key_at(text, b) == 2 {
-        return lengths_in(text, value_at(text, b));
-    }
-    lengths_in(text, value_at(text, c))
+    lengths_in(text, value_at(text, shape_entry(text)))
 }

@@ -1,12 +1,9 @@
 -- `npy::header::after_comma` meets its contract.
+use mathlib.Core.Path.{_≡_, sym, _∙_}
+use Rattle.npy.specs.Header.{afterComma}
 use borrow.Author.Needs.{needs}
 use Rattle.npy.proofs.header.after_comma.Statement.{statement}
 use Rattle.npy.proofs.header.after_comma.Tie as tie
-use Rattle.npy.proofs.header.after_comma.Reads as reads
-use Rattle.npy.proofs.header.after_comma.Lts as lts
-use Rattle.text.proofs.expect.Reads as expect-reads
-use Rattle.text.proofs.is_at.Reads as is-at-reads
-use Rattle.text.proofs.past.Reads as past-reads
 
 is-at-requires : tie.Need-is-at-requires
 is-at-requires c κs = search needs
@@ -18,10 +15,12 @@ past-requires : tie.Need-past-requires
 past-requires c κs = search needs
 
 returns : tie.Need-returns
-returns c = ?
+unfolding afterComma
+returns c = let f = c .before .before in simp (sym (f .before .is-at .ensures) ∙ f .if1 .taken) (cc)
 
 returns-2 : tie.Need-returns-2
-returns-2 c = ?
+unfolding afterComma
+returns-2 c = simp (sym (c .before .is-at .ensures) ∙ c .if1 .left)
 
 pub after-comma-spec : {M : Type 1} → statement M
 after-comma-spec =

@@ -1,14 +1,8 @@
 -- `npy::header::after_shape` meets its contract.
+use Rattle.npy.specs.Header.{afterShape}
 use borrow.Author.Needs.{needs}
 use Rattle.npy.proofs.header.after_shape.Statement.{statement}
 use Rattle.npy.proofs.header.after_shape.Tie as tie
-use Rattle.npy.proofs.header.after_shape.Reads as reads
-use Rattle.npy.proofs.header.after_shape.Lts as lts
-use Rattle.npy.proofs.header.first_length.Reads as first-length-reads
-use Rattle.npy.proofs.header.next_length.Reads as next-length-reads
-use Rattle.text.proofs.expect.Reads as expect-reads
-use Rattle.text.proofs.numeral.after_numeral.Reads as after-numeral-reads
-use Rattle.text.proofs.past.Reads as past-reads
 
 first-length-requires : tie.Need-first-length-requires
 first-length-requires c κs = search needs
@@ -29,7 +23,8 @@ expect-requires : tie.Need-expect-requires
 expect-requires c κs = search needs
 
 returns : tie.Need-returns
-returns c = ?
+unfolding afterShape
+returns c = cc
 
 pub after-shape-spec : {M : Type 1} → statement M
 after-shape-spec =

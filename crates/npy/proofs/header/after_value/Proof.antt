@@ -1,12 +1,10 @@
 -- `npy::header::after_value` meets its contract.
+use borrow.Author.Tests.{eq-eqb, ne-eqb}
+use lib.Seq.{drop-length}
+use Rattle.npy.specs.Header.{afterValue}
 use borrow.Author.Needs.{needs}
 use Rattle.npy.proofs.header.after_value.Statement.{statement}
 use Rattle.npy.proofs.header.after_value.Tie as tie
-use Rattle.npy.proofs.header.after_value.Reads as reads
-use Rattle.npy.proofs.header.after_value.Lts as lts
-use Rattle.npy.proofs.header.after_shape.Reads as after-shape-reads
-use Rattle.text.proofs.literal.Reads as literal-reads
-use Rattle.text.proofs.quoted.Reads as quoted-reads
 
 slice-aggregate-quoted : tie.Need-slice-aggregate-quoted
 slice-aggregate-quoted c = search needs
@@ -15,7 +13,8 @@ quoted-requires : tie.Need-quoted-requires
 quoted-requires c κs = search needs
 
 returns : tie.Need-returns
-returns c = ?
+unfolding afterValue
+returns c = simp (eq-eqb _ _ (c .before .before .if1 .taken)) (c .quoted .ensures)
 
 slice-aggregate-literal : tie.Need-slice-aggregate-literal
 slice-aggregate-literal c = search needs
@@ -24,16 +23,19 @@ literal-requires : tie.Need-literal-requires
 literal-requires c κs = search needs
 
 returns-2 : tie.Need-returns-2
-returns-2 c = ?
+unfolding afterValue
+returns-2 c = let f = c .before .before in simp (ne-eqb _ _ (f .before .if1 .left), eq-eqb _ _ (f .if2 .taken)) (c .literal .ensures)
 
 after-shape-requires : tie.Need-after-shape-requires
 after-shape-requires c κs = search needs
 
 returns-3 : tie.Need-returns-3
-returns-3 c = ?
+unfolding afterValue
+returns-3 c = let f = c .before in simp (ne-eqb _ _ (f .before .before .if1 .left), ne-eqb _ _ (f .before .if2 .left), eq-eqb _ _ (f .if3 .taken)) (c .after-shape .ensures)
 
 returns-4 : tie.Need-returns-4
-returns-4 c = ?
+unfolding afterValue
+returns-4 c = simp (ne-eqb _ _ (c .before .before .if1 .left), ne-eqb _ _ (c .before .if2 .left), ne-eqb _ _ (c .if3 .left)) (drop-length (c .before .before .before .before .args .text .now))
 
 pub after-value-spec : {M : Type 1} → statement M
 after-value-spec =

@@ -1,11 +1,8 @@
 -- `npy::header::first_entry` meets its contract.
+use Rattle.npy.specs.Header.{firstEntry}
 use borrow.Author.Needs.{needs}
 use Rattle.npy.proofs.header.first_entry.Statement.{statement}
 use Rattle.npy.proofs.header.first_entry.Tie as tie
-use Rattle.npy.proofs.header.first_entry.Reads as reads
-use Rattle.npy.proofs.header.first_entry.Lts as lts
-use Rattle.text.proofs.expect.Reads as expect-reads
-use Rattle.text.proofs.past.Reads as past-reads
 
 past-requires : tie.Need-past-requires
 past-requires c κs = search needs
@@ -17,7 +14,8 @@ past-requires-2 : tie.Need-past-requires-2
 past-requires-2 c κs = search needs
 
 returns : tie.Need-returns
-returns c = ?
+unfolding firstEntry
+returns c = cc
 
 pub first-entry-spec : {M : Type 1} → statement M
 first-entry-spec = tie.close (tie.spec past-requires expect-requires past-requires-2 returns)

@@ -1,17 +1,15 @@
 -- `npy::header::is_header` meets its contract.
+use mathlib.Core.Path.{_≡_, sym, ap, _∙_}
+use mathlib.Core.Bool.{true, false}
+use mathlib.Core.List.{List}
+use Prim.Native.Nat.{ℕ}
+use lib.ListN.{drop}
+use Rattle.text.specs.declared.Kind.the-variants.{Spacing}
+use Rattle.text.specs.Text.{past}
+use Rattle.npy.specs.Header.{keyAt, afterEntry, firstEntry, nextEntry, afterComma, closes, eachOnce, isHeader}
 use borrow.Author.Needs.{needs}
 use Rattle.npy.proofs.header.is_header.Statement.{statement}
 use Rattle.npy.proofs.header.is_header.Tie as tie
-use Rattle.npy.proofs.header.is_header.Reads as reads
-use Rattle.npy.proofs.header.is_header.Lts as lts
-use Rattle.npy.proofs.header.after_comma.Reads as after-comma-reads
-use Rattle.npy.proofs.header.after_entry.Reads as after-entry-reads
-use Rattle.npy.proofs.header.closes.Reads as closes-reads
-use Rattle.npy.proofs.header.each_once.Reads as each-once-reads
-use Rattle.npy.proofs.header.first_entry.Reads as first-entry-reads
-use Rattle.npy.proofs.header.key_at.Reads as key-at-reads
-use Rattle.npy.proofs.header.next_entry.Reads as next-entry-reads
-use Rattle.text.proofs.past.Reads as past-reads
 
 first-entry-requires : tie.Need-first-entry-requires
 first-entry-requires c κs = search needs
@@ -46,11 +44,30 @@ after-comma-requires c κs = search needs
 closes-requires : tie.Need-closes-requires
 closes-requires c κs = search needs
 
+-- the test of the three keys, as it is specified
+once : (c : tie.After-each-once) → let t = c .before .before .before .before .before .before .before .before .args .text .now in c .each-once .result ≡ eachOnce (keyAt (firstEntry t)) (keyAt (nextEntry (firstEntry t))) (keyAt (nextEntry (nextEntry (firstEntry t))))
+once c =
+    let x = c .before .before .before .before .before .before .first-entry .ensures in
+    let y = c .before .before .before .before .before .next-entry .ensures ∙ ap nextEntry x in
+    let z = c .before .before .before .before .next-entry2 .ensures ∙ ap nextEntry y in
+    let j = c .before .before .before .key-at .ensures ∙ ap keyAt x in
+    let k = c .before .before .key-at2 .ensures ∙ ap keyAt y in
+    let l = c .before .key-at3 .ensures ∙ ap keyAt z in
+    c .each-once .ensures ∙ (λ i. eachOnce (j i) (k i) (l i))
+
 returns : tie.Need-returns
-returns c = ?
+unfolding isHeader
+returns c =
+    let e = c .before .before .before .before .before in
+    let x = e .before .before .before .before .before .before .first-entry .ensures in
+    let y = e .before .before .before .before .before .next-entry .ensures ∙ ap nextEntry x in
+    let z = e .before .before .before .before .next-entry2 .ensures ∙ ap nextEntry y in
+    let behind = c .before .before .past .ensures ∙ ap (past Spacing) (c .before .before .before .after-entry .ensures ∙ ap afterEntry z) in
+    simp (sym (once e) ∙ c .before .before .before .before .if1 .taken) (c .closes .ensures ∙ ap closes (c .before .after-comma .ensures ∙ ap afterComma behind))
 
 returns-2 : tie.Need-returns-2
-returns-2 c = ?
+unfolding isHeader
+returns-2 c = simp (sym (once (c .before)) ∙ c .if1 .left)
 
 pub is-header-spec : {M : Type 1} → statement M
 is-header-spec =

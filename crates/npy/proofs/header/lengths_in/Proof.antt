@@ -1,12 +1,8 @@
 -- `npy::header::lengths_in` meets its contract.
+use Rattle.npy.specs.Header.{lengthsIn}
 use borrow.Author.Needs.{needs}
 use Rattle.npy.proofs.header.lengths_in.Statement.{statement}
 use Rattle.npy.proofs.header.lengths_in.Tie as tie
-use Rattle.npy.proofs.header.lengths_in.Reads as reads
-use Rattle.npy.proofs.header.lengths_in.Lts as lts
-use Rattle.npy.proofs.header.first_length.Reads as first-length-reads
-use Rattle.npy.proofs.header.next_length.Reads as next-length-reads
-use Rattle.text.proofs.numeral.numeral.Reads as numeral-reads
 
 first-length-requires : tie.Need-first-length-requires
 first-length-requires c κs = search needs
@@ -27,7 +23,8 @@ numeral-requires-3 : tie.Need-numeral-requires-3
 numeral-requires-3 c κs = search needs
 
 returns : tie.Need-returns
-returns c = ?
+unfolding lengthsIn
+returns c = cc
 
 pub lengths-in-spec : {M : Type 1} → statement M
 lengths-in-spec =

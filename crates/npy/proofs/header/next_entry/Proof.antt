@@ -1,12 +1,8 @@
 -- `npy::header::next_entry` meets its contract.
+use Rattle.npy.specs.Header.{nextEntry}
 use borrow.Author.Needs.{needs}
 use Rattle.npy.proofs.header.next_entry.Statement.{statement}
 use Rattle.npy.proofs.header.next_entry.Tie as tie
-use Rattle.npy.proofs.header.next_entry.Reads as reads
-use Rattle.npy.proofs.header.next_entry.Lts as lts
-use Rattle.npy.proofs.header.after_entry.Reads as after-entry-reads
-use Rattle.text.proofs.expect.Reads as expect-reads
-use Rattle.text.proofs.past.Reads as past-reads
 
 after-entry-requires : tie.Need-after-entry-requires
 after-entry-requires c κs = search needs
@@ -21,7 +17,8 @@ past-requires-2 : tie.Need-past-requires-2
 past-requires-2 c κs = search needs
 
 returns : tie.Need-returns
-returns c = ?
+unfolding nextEntry
+returns c = cc
 
 pub next-entry-spec : {M : Type 1} → statement M
 next-entry-spec =

@@ -1,12 +1,8 @@
 -- `npy::header::next_length` meets its contract.
+use Rattle.npy.specs.Header.{nextLength}
 use borrow.Author.Needs.{needs}
 use Rattle.npy.proofs.header.next_length.Statement.{statement}
 use Rattle.npy.proofs.header.next_length.Tie as tie
-use Rattle.npy.proofs.header.next_length.Reads as reads
-use Rattle.npy.proofs.header.next_length.Lts as lts
-use Rattle.text.proofs.expect.Reads as expect-reads
-use Rattle.text.proofs.numeral.after_numeral.Reads as after-numeral-reads
-use Rattle.text.proofs.past.Reads as past-reads
 
 after-numeral-requires : tie.Need-after-numeral-requires
 after-numeral-requires c κs = search needs
@@ -21,7 +17,8 @@ past-requires-2 : tie.Need-past-requires-2
 past-requires-2 c κs = search needs
 
 returns : tie.Need-returns
-returns c = ?
+unfolding nextLength
+returns c = cc
 
 pub next-length-spec : {M : Type 1} → statement M
 next-length-spec =

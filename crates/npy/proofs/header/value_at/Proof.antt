@@ -1,13 +1,8 @@
 -- `npy::header::value_at` meets its contract.
+use Rattle.npy.specs.Header.{valueAt}
 use borrow.Author.Needs.{needs}
 use Rattle.npy.proofs.header.value_at.Statement.{statement}
 use Rattle.npy.proofs.header.value_at.Tie as tie
-use Rattle.npy.proofs.header.value_at.Reads as reads
-use Rattle.npy.proofs.header.value_at.Lts as lts
-use Rattle.npy.proofs.header.after_key.Reads as after-key-reads
-use Rattle.npy.proofs.header.key_at.Reads as key-at-reads
-use Rattle.text.proofs.expect.Reads as expect-reads
-use Rattle.text.proofs.past.Reads as past-reads
 
 key-at-requires : tie.Need-key-at-requires
 key-at-requires c κs = search needs
@@ -25,7 +20,8 @@ past-requires-2 : tie.Need-past-requires-2
 past-requires-2 c κs = search needs
 
 returns : tie.Need-returns
-returns c = ?
+unfolding valueAt
+returns c = cc
 
 pub value-at-spec : {M : Type 1} → statement M
 value-at-spec =
