@@ -7,6 +7,7 @@
 
 #include "common/ending.h"
 #include "common/input.h"
+#include "common/number.h"
 #include "common/volume.h"
 
 /* The finite voxels: how many there are, and between which numbers. */
@@ -31,12 +32,11 @@ static struct range range_of(const double *voxels, size_t count)
     return range;
 }
 
-/* No two numbers print alike. */
 static void say_range(const struct range *range, size_t count)
 {
     printf("finite: %zu of %zu voxels\n", range->count, count);
     if (range->count > 0)
-        printf("least: %.17g\nlargest: %.17g\n", range->least, range->largest);
+        printf("least: %s\nlargest: %s\n", number(range->least).text, number(range->largest).text);
 }
 
 static void say_first_wild(const double *voxels, size_t count, const size_t lengths[3])
@@ -47,7 +47,8 @@ static void say_first_wild(const double *voxels, size_t count, const size_t leng
     if (at == count)
         puts("first wild voxel: none");
     else
-        printf("first wild voxel: x %zu, y %zu, z %zu is %.17g\n", place.x, place.y, place.z, voxels[at]);
+        printf("first wild voxel: x %zu, y %zu, z %zu is %s\n", place.x, place.y, place.z,
+               number(voxels[at]).text);
 }
 
 int main(int argc, char **argv)

@@ -28,17 +28,18 @@ void refuse_file(const char *path, const struct bytes *file)
 {
     const uint8_t *at = file->at;
 
-    if (file->length < FRONT || memcmp(at, "\x93NUMPY", 6) != 0)
-        fail(VURELIKA_NOT_NPY, "refusal 10: %s does not begin as a .npy file does", path);
+    if (file->length < FRONT)
+        refuse(VURELIKA_NOT_NPY, "%s has %zu bytes; a .npy file has more than 10", path, file->length);
+    if (memcmp(at, "\x93NUMPY", 6) != 0)
+        refuse(VURELIKA_NOT_NPY, "%s does not begin as a .npy file does", path);
     if (at[6] != 1 || at[7] != 0)
-        fail(VURELIKA_NOT_NPY, "refusal 10: %s is of .npy version %u.%u; 1.0 is taken", path, at[6], at[7]);
+        refuse(VURELIKA_NOT_NPY, "%s is of .npy version %u.%u; 1.0 is taken", path, at[6], at[7]);
     size_t length = at[8] + 256u * at[9], rest = file->length - FRONT;
 
     if (length > rest)
-        fail(VURELIKA_NOT_NPY, "refusal 10: %s ends after %zu of the %zu bytes of its header", path, rest,
-             length);
-    fail(VURELIKA_NOT_NPY,
-         "refusal 10: %s has the header %s and %zu bytes of data; taken are '<f8', fortran_order False, "
-         "three lengths, and 8 bytes for each voxel",
-         path, shown_of(at + FRONT, length).text, rest - length);
+        refuse(VURELIKA_NOT_NPY, "%s ends after %zu of the %zu bytes of its header", path, rest, length);
+    refuse(VURELIKA_NOT_NPY,
+           "%s has the header %s and %zu bytes of data; taken are '<f8', fortran_order False, three lengths, "
+           "and 8 bytes for each voxel",
+           path, shown_of(at + FRONT, length).text, rest - length);
 }
