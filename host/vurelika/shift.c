@@ -8,7 +8,7 @@
  * --fill F               in mode constant what is written outside; 0.0 unless given, as SciPy's cval
  * --no-prefilter         orders 2 to 5 take the voxels as coefficients
  * --coverage CODES.npy   writes the code of each voxel too, as bytes
- * --dry-run              resamples in memory, says the same, and writes nothing
+ * --dry-run              resamples in memory, and says what would be refused or written; writes nothing
  * --force                replaces files that are there */
 #include "common/resampling.h"
 #include "vurelika.h"

@@ -3,7 +3,7 @@
  *     [--coverage CODES.npy] [--dry-run] [--force]
  *
  * --zoom X,Y,Z           the factor of each axis: a length times its factor is rounded, a half to even
- * The other options are those of shift. */
+ * The other options are those of shift: vurelika help shift. */
 #include "common/resampling.h"
 #include "vurelika.h"
 

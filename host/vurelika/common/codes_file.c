@@ -14,8 +14,9 @@ struct bytes codes_file(const size_t lengths[3], const uint8_t *codes)
     size_t count = voxels_of(lengths);
     struct bytes file = {room(DATA + count, 1), DATA + count};
     char header[DATA - FRONT + 1];
-    int text = snprintf(header, sizeof header, "{'descr': '|u1', 'fortran_order': False, 'shape': (%zu, %zu, %zu), }",
-                        lengths[0], lengths[1], lengths[2]);
+    int text = snprintf(header, sizeof header,
+                        "{'descr': '|u1', 'fortran_order': False, 'shape': (%zu, %zu, %zu), }", lengths[0],
+                        lengths[1], lengths[2]);
 
     memcpy(file.at, "\x93NUMPY\x01\x00", FRONT - 2);
     file.at[8] = DATA - FRONT;

@@ -25,11 +25,6 @@ static _Noreturn void fail_to_create(const char *path)
     fail(EX_CANTCREAT, "%s cannot be created: %s", path, strerror(errno));
 }
 
-static _Noreturn void fail_to_replace(const char *path)
-{
-    fail(EX_CANTCREAT, "%s is there already; --force replaces it", path);
-}
-
 static int is_there(const char *path)
 {
     return access(path, F_OK) == 0;
@@ -42,7 +37,7 @@ void expect_output(const char *path, int replace)
     char *folder = room(before + sizeof ".", 1);
 
     if (!replace && is_there(path))
-        fail_to_replace(path);
+        fail(EX_CANTCREAT, "%s is there already; --force replaces it", path);
     memcpy(folder, path, before);
     strcpy(folder + before, ".");
     if (access(folder, W_OK | X_OK) != 0)
@@ -109,15 +104,25 @@ static int publish(const struct output *output, int replace)
     if (!replace) {
         if (link(output->own, output->path) == 0)
             return 1;
-        if (errno == EEXIST || is_there(output->path))
-            fail_to_replace(output->path);
+        if (errno == EEXIST || is_there(output->path)) {
+            errno = EEXIST;
+            return 0;
+        }
     }
     return rename(output->own, output->path) == 0;
 }
 
+/* What was put where nothing was is taken away again where a later one fails. */
 void publish_outputs(int replace)
 {
-    for (int i = 0; i < begun; i++)
-        if (!publish(&outputs[i], replace))
-            fail_to_create(outputs[i].path);
+    for (int i = 0; i < begun; i++) {
+        if (publish(&outputs[i], replace))
+            continue;
+        int why = errno;
+
+        for (int before = 0; before < i && !replace; before++)
+            unlink(outputs[before].path);
+        errno = why;
+        fail_to_create(outputs[i].path);
+    }
 }

@@ -2,12 +2,7 @@
 #ifndef VURELIKA_REQUEST_H
 #define VURELIKA_REQUEST_H
 
-#include <stddef.h>
-#include <stdint.h>
-
-typedef uint32_t resampler(size_t, size_t, size_t, double, double, double, size_t, uint32_t, uint32_t,
-                           double, const double *, size_t, double *, size_t, uint8_t *, size_t, double *,
-                           size_t, uint64_t *, size_t);
+#include "resampler.h"
 
 /* One of the two functions that resample, and in what they differ. */
 struct entry {

@@ -84,10 +84,9 @@ int resample_file(const struct entry *entry, int argc, char **argv)
 
     free(voxels);
     free(lent.work);
-    /* the codes first: where the second path is taken in between, no volume stands without its codes */
+    report.volume_bytes = put(&r, r.output, volume_file(report.out, lent.output));
     if (r.coverage != NULL)
         report.codes_bytes = put(&r, r.coverage, codes_file(report.out, lent.coverage));
-    report.volume_bytes = put(&r, r.output, volume_file(report.out, lent.output));
     publish_outputs(r.force);
 
     report.work_bytes = lent.work_len * sizeof *lent.work;
