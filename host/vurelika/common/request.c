@@ -7,21 +7,17 @@
 
 #include "ending.h"
 #include "vurelika.h"
+#include "words.h"
 
 static const char *const modes[] = {
     [VURELIKA_CONSTANT] = "constant", [VURELIKA_MIRROR] = "mirror", [VURELIKA_NEAREST] = "nearest",
     [VURELIKA_REFLECT] = "reflect",   [VURELIKA_WRAP] = "wrap",
 };
 
-static int is(const char *word, const char *other)
-{
-    return strcmp(word, other) == 0;
-}
-
 static uint32_t mode_of(const char *word)
 {
     for (uint32_t mode = 0; mode < sizeof modes / sizeof modes[0]; mode++)
-        if (is(word, modes[mode]))
+        if (strcmp(word, modes[mode]) == 0)
             return mode;
     fail(EX_USAGE, "--mode is constant, mirror, nearest, reflect or wrap, not '%s'", word);
 }
@@ -58,39 +54,11 @@ static void read_factors(const char *option, const char *word, double factors[3]
     }
 }
 
-/* An option without a value. */
-static int take_flag(struct request *r, const char *option)
-{
-    if (is(option, "--no-prefilter"))
-        r->prefilter = 0;
-    else if (is(option, "--dry-run"))
-        r->dry_run = 1;
-    else if (is(option, "--force"))
-        r->force = 1;
-    else
-        return 0;
-    return 1;
-}
-
-static void take_option(struct request *r, const char *option, const char *value)
-{
-    if (is(option, r->entry->option)) {
-        read_factors(option, value, r->factors);
-    } else if (is(option, "--order")) {
-        r->order = order_of(value);
-        r->order_word = value;
-    } else if (is(option, "--mode")) {
-        r->mode = mode_of(value);
-    } else if (is(option, "--coverage")) {
-        r->coverage = value;
-    }
-}
-
 /* Whether two paths lead to one file; one that is not there yet is known by its name alone. */
 static int same_file(const char *path, const char *other)
 {
     char *real = realpath(path, NULL), *other_real = realpath(other, NULL);
-    int same = is(real != NULL ? real : path, other_real != NULL ? other_real : other);
+    int same = strcmp(real != NULL ? real : path, other_real != NULL ? other_real : other) == 0;
 
     free(real);
     free(other_real);
@@ -112,22 +80,27 @@ static void hold_paths(const struct request *r)
 
 struct request request_of(const struct entry *entry, int argc, char **argv)
 {
-    struct request r = {.entry = entry, .prefilter = 1};
-    const char *fill = NULL;
+    struct words w = words_of(entry->option, argc, argv);
 
-    for (int i = 1; i < argc; i++) {
-        if (strncmp(argv[i], "--", 2) != 0)
-            *(r.input == NULL ? &r.input : &r.output) = argv[i];
-        else if (is(argv[i], "--fill"))
-            fill = argv[++i];
-        else if (!take_flag(&r, argv[i])) {
-            take_option(&r, argv[i], argv[i + 1]);
-            i++;
-        }
-    }
-    if (fill != NULL && r.mode != VURELIKA_CONSTANT)
-        fail(EX_USAGE, "--fill is for mode constant, not %s", modes[r.mode]);
-    r.fill = fill != NULL ? fill_of(fill) : 0.0;
+    if (w.output == NULL || w.factors == NULL || w.order == NULL || w.mode == NULL)
+        fail(EX_USAGE, "a word is missing that must be given");
+    struct request r = {
+        .entry = entry,
+        .input = w.input,
+        .output = w.output,
+        .coverage = w.coverage,
+        .order = order_of(w.order),
+        .order_word = w.order,
+        .prefilter = !w.no_prefilter,
+        .mode = mode_of(w.mode),
+        .fill = w.fill != NULL ? fill_of(w.fill) : 0.0,
+        .dry_run = w.dry_run,
+        .force = w.force,
+    };
+
+    read_factors(entry->option, w.factors, r.factors);
+    if (w.fill != NULL && r.mode != VURELIKA_CONSTANT)
+        fail(EX_USAGE, "--fill is for mode constant, not %s", w.mode);
     hold_paths(&r);
     return r;
 }

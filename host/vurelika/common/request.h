@@ -26,8 +26,8 @@ struct request {
     int dry_run, force;
 };
 
-/* The request of a command's words. The launcher has held them to the usage (host/words); what is no
- * number, no mode, or no file to write to is found here. */
+/* The request of a command's words. The launcher has held them to the usage (host/words); what is no number,
+ * no mode, or the same file twice ends the command here. */
 struct request request_of(const struct entry *entry, int argc, char **argv);
 
 #endif
