@@ -1,10 +1,11 @@
-"""Makes the .npy files of host/test beside this file, with numpy.save: what the commands are given, and what
+"""Makes the .npy files of host/test in the folder named, with numpy.save: what the commands are given, and what
 they must write."""
 import pathlib
+import sys
 
 import numpy
 
-FOLDER = pathlib.Path(__file__).parent
+FOLDER = pathlib.Path(sys.argv[1])
 
 
 def lanes(numbers, kind="<f8"):

@@ -55,7 +55,7 @@ double *read_voxels(const char *path, struct bytes *file, const size_t lengths[3
         refuse_count(path, count);
     double *voxels = room(count, sizeof *voxels);
 
-    vurelika_npy_read(file->at, file->length, voxels, count);
+    expect_done(vurelika_npy_read(file->at, file->length, voxels, count));
     free(file->at);
     *file = (struct bytes){NULL, 0};
     return voxels;

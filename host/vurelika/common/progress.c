@@ -1,6 +1,7 @@
 #define _DEFAULT_SOURCE /* signal: a read that was interrupted goes on */
 #include "progress.h"
 
+#include <errno.h>
 #include <signal.h>
 #include <stdarg.h>
 #include <stdio.h>
@@ -24,15 +25,18 @@ static void say_step(void)
 
 static void on_alarm(int number)
 {
+    int interrupted = errno;
+
     (void)number;
     late = 1;
     say_step();
+    errno = interrupted;
 }
 
 void progress(const char *format, ...)
 {
     static int begun;
-    int next = 1 - running;
+    int next = 1 - running, was_late = late;
     va_list words;
 
     if (!isatty(STDERR_FILENO))
@@ -42,7 +46,7 @@ void progress(const char *format, ...)
     va_end(words);
     strcat(steps[next], " ...\n");
     running = next;
-    if (late)
+    if (was_late)
         say_step();
     if (!begun) {
         begun = 1;

@@ -86,3 +86,9 @@ void refuse_request(const struct request *r, const size_t lengths[3], const doub
         refuse(refusal, "%s", refusal_meaning(refusal));
     }
 }
+
+void expect_done(uint32_t answer)
+{
+    if (answer != VURELIKA_DONE)
+        refuse(answer, "%s", refusal_meaning(answer));
+}

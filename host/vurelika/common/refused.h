@@ -1,5 +1,5 @@
-/* A refusal in words: each function ends the command with its number, after a line on stderr that says what
- * was wrong and where. Which axis it was is asked of the library, so that its rules are not written again. */
+/* A refusal in words: the command ends with its number, after a line on stderr that says what was wrong and
+ * where. Which axis it was is asked of the library, so that its rules are not written again. */
 #ifndef VURELIKA_REFUSED_H
 #define VURELIKA_REFUSED_H
 
@@ -18,5 +18,8 @@ _Noreturn void refuse_count(const char *name, size_t places);
 /* Any refusal of a request for a volume of these lengths. Its voxels are looked at for refusal 8 alone. */
 _Noreturn void refuse_request(const struct request *r, const size_t lengths[3], const double *voxels,
                               uint32_t refusal);
+
+/* An answer to what was found admitted before: nothing happens, unless it is a refusal all the same. */
+void expect_done(uint32_t answer);
 
 #endif

@@ -55,7 +55,8 @@ static struct bytes volume_file(const size_t lengths[3], const double *voxels)
     size_t size = vurelika_npy_size(lengths[0], lengths[1], lengths[2]);
     struct bytes file = {room(size, 1), size};
 
-    vurelika_npy_write(lengths[0], lengths[1], lengths[2], voxels, voxels_of(lengths), file.at, size);
+    expect_done(vurelika_npy_write(lengths[0], lengths[1], lengths[2], voxels, voxels_of(lengths), file.at,
+                                   file.length));
     return file;
 }
 
