@@ -7,6 +7,8 @@ const char *refusal_meaning(uint32_t number)
     switch (number) {
     case VURELIKA_DONE:
         return "done";
+    case VURELIKA_NOT_NPY:
+        return "the bytes are not a whole .npy file of version 1.0 with little-endian f64 in C order on three axes";
     case VURELIKA_ORDER:
         return "the order is not one that this function has";
     case VURELIKA_AXIS:
