@@ -80,7 +80,7 @@ impl fmt::Display for Refusal {
     fn fmt(&self, f: &mut fmt::Formatter<'_>) -> fmt::Result {
         let why = match self {
             Refusal::NotNpy => {
-                "the bytes are not a whole .npy file of version 1.0 with little-endian f64 in C order on three axes"
+                "the bytes are no whole .npy file of version 1.0, '<f8', C order and three axes"
             }
             Refusal::Order => "the order is not one that this function has",
             Refusal::Axis => "the axis number is above 2",
