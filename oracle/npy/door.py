@@ -21,7 +21,7 @@ class Door:
             self.process.stdin.flush()
             return [self.answer(places) for _ in range(2)]
         except (OSError, EOFError):
-            sys.exit(f"the program ended, lent {dims_places} and {places} places, at {file!r}")
+            sys.exit(f"the program ended; it was lent {dims_places} and {places} places, and {file!r}")
 
     def answer(self, places):
         dims_status, *dims, read_status, written = struct.unpack("<6Q", self.bytes(48))

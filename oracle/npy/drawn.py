@@ -6,6 +6,7 @@ import re
 
 from layout import data_of, file_of
 
+LEADS = ["", "", " ", "\t", " \t "]
 SPACINGS = ["", "", " ", " ", "\t", "\n", "  \n"]
 SIGNS = ["{", "}", "(", ")", ",", ":", "'descr'", '"descr"', "'fortran_order'", "'shape'", "'<f8'", "False"]
 NUMBERS = ["0", "1", "2", "3", "4", "12"]
@@ -18,21 +19,17 @@ MOST_VOXELS = 4096
 
 def good_signs(draw):
     """The signs of a header that is taken, with some spacing between them."""
-    entries = [["descr", "<f8"], ["fortran_order", "False"], ["shape"]]
+    a, b, c = draw.choices(NUMBERS[2:], k=3)
+    entries = [
+        [quoted(draw, "descr"), ":", quoted(draw, "<f8")],
+        [quoted(draw, "fortran_order"), ":", "False"],
+        [quoted(draw, "shape"), ":", "(", a, ",", b, ",", c, ")"],
+    ]
     draw.shuffle(entries)
-    signs = [draw.choice(["", "", " ", "\t"]), "{"]
-    for key, *value in entries:
-        signs += [quoted(draw, key), ":"]
-        if key == "shape":
-            a, b, c = draw.choices(NUMBERS[2:], k=3)
-            signs += ["(", a, ",", b, ",", c, ")"]
-        else:
-            signs += [quoted(draw, value[0]) if key == "descr" else value[0]]
-        signs.append(",")
-    if draw.random() < 0.5:
-        signs.pop()
-    signs.append("}")
-    return signs[:2] + [sign for s in signs[2:] for sign in (draw.choice(SPACINGS), s)] + [draw.choice(SPACINGS)]
+    first, second, third = entries
+    signs = ["{", *first, ",", *second, ",", *third, *draw.choice([[], [","]]), "}"]
+    spaced = (part for sign in signs for part in (sign, draw.choice(SPACINGS)))
+    return [draw.choice(LEADS), *spaced]
 
 
 def quoted(draw, text):
