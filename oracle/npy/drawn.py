@@ -10,9 +10,10 @@ LEADS = ["", "", " ", "\t", " \t "]
 SPACINGS = ["", "", " ", " ", "\t", "\n", "  \n"]
 SIGNS = ["{", "}", "(", ")", ",", ":", "'descr'", '"descr"', "'fortran_order'", "'shape'", "'<f8'", "False"]
 NUMBERS = ["0", "1", "2", "3", "4", "12"]
-NEAR_MISSES = ["[", "]", ";", "=", "'", '"', "\\", "#", "# 2\n", "\r", "\f", "\v", "\0", "\xa0", "\\\n", "+", "-"]
+NEAR_MISSES = ["[", "]", ";", "=", "+", "-", "'", '"', "#", "# 2\n", "\\", "\\\n", "\r", "\f", "\v", "\0"]
 NEAR_MISSES += ["'>f8'", "'f8'", "'=f8'", "u'descr'", "'''shape'''", "descr", "True", "false", "None", "''"]
-NEAR_MISSES += ["02", "00", "2L", "L", "1_0", "0x2", "2.0", "1e1", "4097", str(2**59), str(2**60), str(2**64 + 2)]
+NEAR_MISSES += ["02", "00", "2L", "L", "1_0", "0x2", "2.0", "1e1", "4097", "\xa0"]
+NEAR_MISSES += [str(number) for number in (2**59, 2**60, 2**64 + 2)]
 LETTERS = "{}(),:'\" \t\n<f8descrfortran_orderFalseshape0123456789"
 MOST_VOXELS = 4096
 
@@ -81,13 +82,14 @@ def mutated(count, seed):
 
 
 def random_headers(count, seed):
-    """Headers of random bytes, of letters that headers have, and of signs."""
+    """Headers of random bytes, of letters that headers have, and of signs; good ones, and good beginnings."""
     draw = random.Random(f"random {seed}")
     kinds = [
         lambda length: draw.randbytes(length).decode("latin1"),
         lambda length: "".join(draw.choices(LETTERS, k=length)),
         lambda length: "".join(any_sign(draw) for _ in range(length // 4)),
-        lambda length: "{" + "".join(draw.choices(SIGNS + NUMBERS + SPACINGS, k=length // 8)) + "}",
+        lambda length: "".join(good_signs(draw)[: length // 3]) + any_sign(draw) + any_sign(draw),
+        lambda _: "".join(good_signs(draw)),
     ]
     for _ in range(count):
         header = draw.choice(kinds)(draw.randrange(160))

@@ -15,8 +15,15 @@ def array_of(shape, data):
     return np.frombuffer(data, "<f8").reshape(shape)
 
 
-def saved(array, version=None):
+def saved(array):
     """The file that NumPy writes."""
+    file = io.BytesIO()
+    np.save(file, array, allow_pickle=False)
+    return file.getvalue()
+
+
+def saved_as(version, array):
+    """The file of a version that NumPy would not choose."""
     file = io.BytesIO()
     npy.write_array(file, array, version, allow_pickle=False)
     return file.getvalue()

@@ -1,5 +1,5 @@
-"""record.py ANSWERS: keeps the files that NumPy writes (files/*.npy), and writes the file ANSWERS of these and
-of the files spelled by hand, for crates/npy_files to read. crates/npy_files/README.md has the layout.
+"""record.py ANSWERS: keeps the files that NumPy writes (files/*.npy), and writes the file ANSWERS of these,
+of headers spelled by hand and of lengths, for crates/npy_files to read, whose README.md has the layout.
 """
 
 import itertools

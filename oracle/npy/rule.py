@@ -46,31 +46,30 @@ HEADERS = [
 
 
 def parts_of(file):
-    """Header and data, or None where the start is another."""
+    """Header and data, or None where the file starts otherwise or ends before its header does."""
     end = 10 + int.from_bytes(file[8:10], "little")
-    if not file.startswith(START) or len(file) < max(10, end):
+    if not file.startswith(START) or len(file) < end:
         return None
     return file[10:end], file[end:]
 
 
 def lengths_in(header):
-    """The three lengths, or None where the header is not taken."""
-    if len(header) > LONGEST_HEADER:
-        return None
-    found = filter(None, (form.fullmatch(header) for form in HEADERS))
-    lengths = [tuple(map(int, match.groups())) for match in found]
-    if not lengths or math.prod(length for length in lengths[0] if length) >= TOO_MANY:
-        return None
-    return lengths[0]
+    """The three lengths, or None where the header is none of the forms."""
+    for form in HEADERS:
+        if match := form.fullmatch(header):
+            return tuple(map(int, match.groups()))
+    return None
 
 
 def dims_of(file):
     """The lengths of a file that is taken, or None."""
-    parts = parts_of(file)
-    lengths = parts and lengths_in(parts[0])
-    if lengths and len(parts[1]) == 8 * math.prod(lengths):
-        return lengths
-    return None
+    header, data = parts_of(file) or (b"", b"")
+    lengths = lengths_in(header)
+    if lengths is None or len(header) > LONGEST_HEADER:
+        return None
+    if math.prod(length for length in lengths if length) >= TOO_MANY:
+        return None
+    return lengths if len(data) == 8 * math.prod(lengths) else None
 
 
 def dims_status(file, places):

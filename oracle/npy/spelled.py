@@ -1,5 +1,5 @@
-"""Files of 2 by 3 by 4 voxels whose headers are spelled by hand: every spelling that is taken, and every
-kind that is refused. What is wrong with a refused one is its spelling alone: its data are as they should be.
+"""Files of 24 voxels whose headers are spelled by hand: every spelling that is taken, and every kind that is
+refused. What is wrong with a refused header is its spelling alone: a lax reader would find 24 voxels in it.
 """
 
 import itertools
@@ -11,7 +11,13 @@ SHAPE = (2, 3, 4)
 DATA = data_of(24)
 DESCR, ORDER, LENGTHS = "'descr': '<f8'", "'fortran_order': False", "'shape': (2, 3, 4)"
 TEXT = text_of(SHAPE)
-BARE = "{%s, %s, %s}" % (DESCR, ORDER, LENGTHS)  # no last comma, nothing around it
+
+
+def braced(*entries):
+    return "{" + ", ".join(entries) + "}"
+
+
+BARE = braced(DESCR, ORDER, LENGTHS)  # no last comma, nothing around it
 
 
 def with_descr(value):
@@ -35,17 +41,14 @@ def apart(spacing):
 
 def quotes():
     """Each string in either quotes."""
-    strings = ["descr", "<f8", "fortran_order", "shape"]
-    for marks in itertools.product("'\"", repeat=len(strings)):
-        yield "{%s: %s, %s: False, %s: (2, 3, 4)}" % tuple(
-            mark + text + mark for mark, text in zip(marks, strings)
-        )
+    for a, b, c, d in itertools.product("'\"", repeat=4):
+        yield braced(f"{a}descr{a}: {b}<f8{b}", f"{c}fortran_order{c}: False", f"{d}shape{d}: (2, 3, 4)")
 
 
 def admitted():
     yield from (TEXT, TEXT + "\n", header_of(SHAPE))
     yield TEXT + " " * (-(10 + len(TEXT) + 1) % 16) + "\n"  # as NumPy before 1.14 aligned it
-    yield from ("{%s, %s, %s}" % order for order in itertools.permutations([DESCR, ORDER, LENGTHS]))
+    yield from itertools.starmap(braced, itertools.permutations([DESCR, ORDER, LENGTHS]))
     yield from quotes()
     yield from map(apart, ["", " ", "\t", "\n", " \n", "\n\t ", "    "])
     yield from (lead + TEXT for lead in (" ", "\t", " \t", "\t ", "        "))
@@ -68,18 +71,19 @@ def refused_shapes():
     yield from map(with_shape, ["[2, 3, 4]", "{2, 3, 4}", "2, 3, 4", "((2, 3, 4))", "(2, 3, (4))"])
     yield from map(with_shape, ["(24)", "(24,)", "(6, 4)", "(1, 2, 3, 4)", "()", "(2, 3, 4,)", "(, 2, 3, 4)"])
     yield from map(with_shape, ["(2, 3, 4", "2, 3, 4)", "(2,, 3, 4)", "(2 3, 4)", "(2; 3; 4)", "(2. 3. 4)"])
-    lengths = ["+2", "-2", "02", "002", "2L", "2l", "0x2", "0b10", "0o2", "2.0", "2.", "2e0", "2j", "'2'"]
-    lengths += ["1_0", "0_2", "_2", "2_", "1+1", "2 #", "\u00b2", "2\\\n", "True", "None", ""]
-    yield from (with_shape(f"({length}, 3, 4)") for length in lengths)
-    yield from (with_shape(f"(2, 3, {length})") for length in lengths)
-    yield from map(with_shape, ["(2, 1 2, 4)", "(2, 3, 4 )x", "(2, 3, 4).T", "(1, 3, 4) or (2, 3, 4)"])
+    twos = ["+2", "-2", "02", "002", "2L", "2l", "0x2", "0b10", "0o2", "2.0", "2.", "2e0", "2j", "'2'"]
+    twos += ["0_2", "_2", "2_", "1+1", "2 #", "2#\n", "\xb2", "2\\\n", "None", ""]
+    yield from (with_shape(f"({two}, 3, 4)") for two in twos)
+    yield from (with_shape(f"(2, 6, {two})") for two in twos)
+    yield from map(with_shape, ["(1_2, 2, 1)", "(2, 1 2, 1)", "(True, 6, 4)", "(00, 3, 4)"])
+    yield from map(with_shape, ["(2, 3, 4)x", "(2, 3, 4).T", "(1, 3, 4) or (2, 3, 4)"])
 
 
 def refused_keys():
-    yield from ("{%s}" % ", ".join(keys) for keys in itertools.combinations([DESCR, ORDER, LENGTHS], 2))
-    yield from ("{%s, %s, %s, %s}" % (DESCR, ORDER, LENGTHS, more) for more in (DESCR, ORDER, LENGTHS))
-    yield from ("{%s, %s, %s}" % (DESCR, DESCR, LENGTHS), "{%s, %s, %s}" % (DESCR, ORDER, ORDER))
-    yield from ("{%s, %s, %s, %s}" % (DESCR, ORDER, LENGTHS, more) for more in ("'x': 1", "1: 1", "**{}"))
+    yield from itertools.starmap(braced, itertools.combinations([DESCR, ORDER, LENGTHS], 2))
+    yield from (braced(DESCR, DESCR, LENGTHS), braced(ORDER, LENGTHS, ORDER), braced(LENGTHS, LENGTHS, ORDER))
+    mores = [DESCR, ORDER, LENGTHS, "'x': 1", "1: 1", "**{}"]
+    yield from (braced(DESCR, ORDER, LENGTHS, more) for more in mores)
     names = ["Descr", "descr ", " descr", "desc", "descrs", "", r"\x64escr", "d\\\nescr", "de' 'scr"]
     yield from (BARE.replace("descr", name) for name in names)
     names = ["shape", "u'shape'", "'''shape'''", "'shape", "shape'", "'shape\"", "('shape')"]

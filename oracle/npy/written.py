@@ -5,7 +5,7 @@ import pathlib
 import numpy as np
 
 from layout import data_of
-from numpys import array_of, saved
+from numpys import array_of, saved, saved_as
 from rule import DONE, LENGTH, NOT_NPY
 
 FOLDER = pathlib.Path(__file__).parent / "files"
@@ -34,8 +34,8 @@ def written():
         "record": volume.astype([("voxel", "<f8")]),
     }
     files |= {name: (saved(array), NOT_NPY) for name, array in refused.items()}
-    files["version_2"] = saved(volume, (2, 0)), NOT_NPY
-    files["version_3"] = saved(volume, (3, 0)), NOT_NPY
+    files["version_2"] = saved_as((2, 0), volume), NOT_NPY
+    files["version_3"] = saved_as((3, 0), volume), NOT_NPY
     return files
 
 
