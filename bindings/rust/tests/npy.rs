@@ -1,6 +1,6 @@
 //! Files of NumPy: what comes back, each refusal with what it leaves, and files that are cut short.
 
-use vurelika::{npy, Refusal, Volume};
+use vurelika::{npy, shift, BorderMode, Refusal, Request, Volume};
 
 const DIMS: [usize; 3] = [2, 3, 4];
 const VOXELS: usize = 24;
@@ -70,6 +70,21 @@ fn there_and_back() -> Result<(), Refusal> {
     Ok(())
 }
 
+/// The reader moves a NaN, and the resampler refuses it.
+#[test]
+fn a_nan() -> Result<(), Refusal> {
+    let Volume { dims, voxels } = npy::read(&npy::write(&volume())?)?;
+    let request = Request {
+        dims,
+        factors: [0.0; 3],
+        order: 1,
+        prefilter: false,
+        mode: BorderMode::Mirror,
+    };
+    assert_eq!(shift(&request, &voxels), Err(Refusal::Value));
+    Ok(())
+}
+
 #[test]
 fn the_header() -> Result<(), Refusal> {
     for dims in [DIMS, [2, 2, 4096], [2, 100, 10]] {
@@ -124,7 +139,7 @@ fn length() {
     }
 }
 
-/// By the lengths alone: a file of so many voxels would have 2 GB.
+/// By the lengths alone: a file of so many voxels would have more than 1 GB.
 #[test]
 fn count() {
     for (dims, refusal) in [
