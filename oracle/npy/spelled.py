@@ -1,5 +1,5 @@
-"""Files of 24 voxels whose headers are spelled by hand: every spelling that is taken, and every kind that is
-refused. What is wrong with a refused header is its spelling alone: a lax reader would find 24 voxels in it.
+"""Files of 24 voxels whose headers are spelled by hand, in each kind of spelling that is taken or refused. What
+is wrong with a refused header is its spelling alone: a lax reader would find 24 voxels in it.
 """
 
 import itertools

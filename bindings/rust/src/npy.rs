@@ -89,7 +89,7 @@ pub fn read_into(bytes: &[u8], voxels: &mut [f64]) -> Result<(), Refusal> {
     door::npy_read(bytes, voxels)
 }
 
-/// How many bytes the file of a volume of these lengths has; or the refusal that [`write`] would give
+/// How many bytes the file of a volume of these lengths has; or the refusal that [`write()`] would give
 /// whatever the voxels are, [`Refusal::Length`] or [`Refusal::Count`].
 ///
 /// ```
@@ -115,7 +115,7 @@ pub fn write(volume: &Volume) -> Result<Vec<u8>, Refusal> {
     Ok(bytes)
 }
 
-/// [`write`] into a lent slice, of exactly [`size`] bytes. On refusal it holds what it held.
+/// [`write()`] into a lent slice, of exactly [`size`] bytes. On refusal it holds what it held.
 ///
 /// ```
 /// # use vurelika::npy;
