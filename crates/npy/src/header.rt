@@ -2,6 +2,7 @@
 ghost use mathlib.Core.Path.{_≡_};
 ghost use lib.ListN.{drop};
 ghost use Rattle.npy.specs.Header.{firstLength, nextLength, afterShape, lengthsIn, afterKey, keyAt, valueAt, afterValue, afterEntry, firstEntry, nextEntry, afterComma, closes, eachOnce, isHeader, shapeEntry, lengthsOf};
+ghost use Rattle.npy.specs.Bookkeeping.{headerIn};
 use text::Kind;
 use text::expect;
 use text::is_at;
@@ -29,7 +30,11 @@ fn after_shape(text: &[u8], at: usize) -> usize
     ensures { λ r. ⌜ drop r (now (text .entry)) ≡ afterShape (drop at (now (text .entry))) ⌝ }
 {
     let last = next_length(text, next_length(text, first_length(text, at)));
-    expect(text, past(text, after_numeral(text, last), Kind::Spacing), b')')
+    expect(
+        text,
+        past(text, after_numeral(text, last), Kind::Spacing),
+        b')',
+    )
 }
 
 fn lengths_in(text: &[u8], at: usize) -> [usize; 3]
@@ -98,10 +103,14 @@ fn after_entry(text: &[u8], at: usize) -> usize
 }
 
 // ---- the whole text
-fn first_entry(text: &[u8]) -> usize
-    ensures { λ r. ⌜ drop r (now (text .entry)) ≡ firstEntry (now (text .entry)) ⌝ }
+fn first_entry(text: &[u8], at: usize) -> usize
+    ensures { λ r. ⌜ drop r (now (text .entry)) ≡ firstEntry (drop at (now (text .entry))) ⌝ }
 {
-    past(text, expect(text, past(text, 0, Kind::Blank), b'{'), Kind::Spacing)
+    past(
+        text,
+        expect(text, past(text, at, Kind::Blank), b'{'),
+        Kind::Spacing,
+    )
 }
 
 fn next_entry(text: &[u8], at: usize) -> usize
@@ -141,10 +150,10 @@ fn each_once(j: u8, k: u8, l: u8) -> bool
     k != l
 }
 
-pub fn is_header(text: &[u8]) -> bool
-    ensures { λ r. ⌜ r ≡ isHeader (now (text .entry)) ⌝ }
+fn is_header(text: &[u8], at: usize) -> bool
+    ensures { λ r. ⌜ r ≡ isHeader (drop at (now (text .entry))) ⌝ }
 {
-    let a = first_entry(text);
+    let a = first_entry(text, at);
     let b = next_entry(text, a);
     let c = next_entry(text, b);
     if each_once(key_at(text, a), key_at(text, b), key_at(text, c)) {
@@ -155,10 +164,10 @@ pub fn is_header(text: &[u8]) -> bool
 }
 
 // The entry that has the key "shape".
-fn shape_entry(text: &[u8]) -> usize
-    ensures { λ r. ⌜ drop r (now (text .entry)) ≡ shapeEntry (now (text .entry)) ⌝ }
+fn shape_entry(text: &[u8], at: usize) -> usize
+    ensures { λ r. ⌜ drop r (now (text .entry)) ≡ shapeEntry (drop at (now (text .entry))) ⌝ }
 {
-    let a = first_entry(text);
+    let a = first_entry(text, at);
     if key_at(text, a) == 2 {
         return a;
     }
@@ -169,8 +178,23 @@ fn shape_entry(text: &[u8]) -> usize
     next_entry(text, b)
 }
 
-pub fn lengths_of(text: &[u8]) -> [usize; 3]
-    ensures { λ r. ⌜ r ≡ lengthsOf (now (text .entry)) ⌝ }
+fn lengths_of(text: &[u8], at: usize) -> [usize; 3]
+    ensures { λ r. ⌜ r ≡ lengthsOf (drop at (now (text .entry))) ⌝ }
 {
-    lengths_in(text, value_at(text, shape_entry(text)))
+    lengths_in(text, value_at(text, shape_entry(text, at)))
+}
+
+// What a text says: whether it is a header's, and its lengths.
+pub struct Header {
+    pub good: bool,
+    pub dims: [usize; 3],
+}
+
+// The header's text from a place on, to the end.
+pub(crate) fn header_at(text: &[u8], at: usize) -> Header
+    ensures { λ r. ⌜ r ≡ headerIn (drop at (now (text .entry))) ⌝ }
+{
+    let good = is_header(text, at);
+    let dims = lengths_of(text, at);
+    Header { good, dims }
 }

@@ -24,7 +24,7 @@ expect-requires : tie.Need-expect-requires
 expect-requires c κs = search needs
 
 returns : tie.Need-returns
-returns c = 
+returns c =
     let q = c .before .before in
     let a = q .before .before .before .before .before .before .args in
     c .expect .ensures ∙ ap (expect (getD (a .text .now) (a .at) 0)) (c .before .literal .ensures) ∙ sym (quoted-there (a .text .now) (a .at) (a .word .now) (omega arith) (sym (q .before .is-quote .ensures) ∙ q .if2 .taken))

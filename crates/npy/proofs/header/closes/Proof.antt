@@ -37,7 +37,7 @@ past-requires c κs = search needs
 
 returns : tie.Need-returns
 unfolding closes
-returns c = 
+returns c =
     let f = c .before .before in
     let a = f .before .before .before .args in
     let rest : drop (c .past .result) (a .text .now) ≡ past Spacing (expect (code "}") (drop (a .at) (a .text .now))) = cc in

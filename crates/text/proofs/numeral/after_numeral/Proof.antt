@@ -28,7 +28,7 @@ past-requires : tie.Need-past-requires
 past-requires c κs = search needs
 
 returns-2 : tie.Need-returns-2
-returns-2 c = 
+returns-2 c =
     let n = c .before in
     let d = n .before .before in
     let z = d .before .before .before in
@@ -36,7 +36,7 @@ returns-2 c =
     c .past .ensures ∙ numeral-there (a .text .now) (a .at) (omega arith) (z .if2 .left) (sym (d .before .is-digit .ensures) ∙ d .if3 .taken) (rw (sym (n .before .numeral .ensures)) (n .if4 .taken))
 
 returns-3 : tie.Need-returns-3
-returns-3 c = 
+returns-3 c =
     let z = c .before .before .before .before .before in
     let a = z .before .before .before .before .args in
     numeral-large (a .text .now) (a .at) (omega arith) (z .if2 .left) (rw (sym (c .before .numeral .ensures)) (c .if4 .left))
