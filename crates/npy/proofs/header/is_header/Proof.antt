@@ -45,7 +45,7 @@ closes-requires : tie.Need-closes-requires
 closes-requires c κs = search needs
 
 -- the test of the three keys, as it is specified
-once : (c : tie.After-each-once) → let t = c .before .before .before .before .before .before .before .before .args .text .now in c .each-once .result ≡ eachOnce (keyAt (firstEntry t)) (keyAt (nextEntry (firstEntry t))) (keyAt (nextEntry (nextEntry (firstEntry t))))
+once : (c : tie.After-each-once) → let a = c .before .before .before .before .before .before .before .before .args in let t = drop (a .at) (a .text .now) in c .each-once .result ≡ eachOnce (keyAt (firstEntry t)) (keyAt (nextEntry (firstEntry t))) (keyAt (nextEntry (nextEntry (firstEntry t))))
 once c =
     let x = c .before .before .before .before .before .before .first-entry .ensures in
     let y = c .before .before .before .before .before .next-entry .ensures ∙ ap nextEntry x in

@@ -1,5 +1,6 @@
 -- `npy::header::shape_entry` meets its contract.
 use mathlib.Core.Path.{sym, ap, _∙_}
+use lib.ListN.{drop}
 use Rattle.npy.specs.Header.{keyAt, nextEntry}
 use Rattle.npy.proofs.Headers.{shape-first, shape-second, shape-third}
 use borrow.Author.Needs.{needs}
@@ -14,9 +15,9 @@ key-at-requires c κs = search needs
 
 returns : tie.Need-returns
 returns c =
-    let t = c .before .before .before .before .args .text .now in
+    let a = c .before .before .before .before .args in
     let x = c .before .before .first-entry .ensures in
-    x ∙ sym (shape-first t (sym (c .before .key-at .ensures ∙ ap keyAt x) ∙ c .if1 .taken))
+    x ∙ sym (shape-first (drop (a .at) (a .text .now)) (sym (c .before .key-at .ensures ∙ ap keyAt x) ∙ c .if1 .taken))
 
 next-entry-requires : tie.Need-next-entry-requires
 next-entry-requires c κs = search needs
@@ -27,10 +28,10 @@ key-at-requires-2 c κs = search needs
 returns-2 : tie.Need-returns-2
 returns-2 c =
     let g = c .before .before .before in
-    let t = g .before .before .before .before .args .text .now in
+    let a = g .before .before .before .before .args in
     let x = g .before .before .first-entry .ensures in
     let y = c .before .before .next-entry .ensures ∙ ap nextEntry x in
-    y ∙ sym (shape-second t (λ e. g .if1 .left (g .before .key-at .ensures ∙ ap keyAt x ∙ e)) (sym (c .before .key-at2 .ensures ∙ ap keyAt y) ∙ c .if2 .taken))
+    y ∙ sym (shape-second (drop (a .at) (a .text .now)) (λ e. g .if1 .left (g .before .key-at .ensures ∙ ap keyAt x ∙ e)) (sym (c .before .key-at2 .ensures ∙ ap keyAt y) ∙ c .if2 .taken))
 
 next-entry-requires-2 : tie.Need-next-entry-requires-2
 next-entry-requires-2 c κs = search needs
@@ -39,10 +40,10 @@ returns-3 : tie.Need-returns-3
 returns-3 c =
     let f = c .before in
     let g = f .before .before .before in
-    let t = g .before .before .before .before .args .text .now in
+    let a = g .before .before .before .before .args in
     let x = g .before .before .first-entry .ensures in
     let y = f .before .before .next-entry .ensures ∙ ap nextEntry x in
-    c .next-entry2 .ensures ∙ ap nextEntry y ∙ sym (shape-third t (λ e. g .if1 .left (g .before .key-at .ensures ∙ ap keyAt x ∙ e)) (λ e. f .if2 .left (f .before .key-at2 .ensures ∙ ap keyAt y ∙ e)))
+    c .next-entry2 .ensures ∙ ap nextEntry y ∙ sym (shape-third (drop (a .at) (a .text .now)) (λ e. g .if1 .left (g .before .key-at .ensures ∙ ap keyAt x ∙ e)) (λ e. f .if2 .left (f .before .key-at2 .ensures ∙ ap keyAt y ∙ e)))
 
 pub shape-entry-spec : {M : Type 1} → statement M
 shape-entry-spec =

@@ -1,0 +1,5 @@
+-- `npy::reader::new` meets its contract.
+use Rattle.npy.proofs.reader.new.Statement.{statement}
+
+pub new-spec : {M : Type 1} → statement M
+new-spec 𝓤 H 𝓜 𝓖 𝓡 = ?
