@@ -2,10 +2,11 @@
 use Prim.Native.Nat.{ℕ, _+_, _≤_}
 use mathlib.Core.Path.{_≡_}
 use mathlib.Core.List.{List, _++_}
-use lib.ListN.{length, take}
+use lib.ListN.{length, getD, take}
+use Rattle.text.specs.Text.{bytes}
 use Rattle.npy.specs.declared.header.Header.{Header}
 use Rattle.npy.specs.Header.{isHeader, lengthsOf}
-use Rattle.npy.specs.File.{textStart, textLength}
+use Rattle.npy.specs.File.{textStart, textLength, decimal}
 
 abbrev pub headerIn : List ℕ → Header
 headerIn text = record { good = isHeader text; dims = lengthsOf text }
@@ -18,3 +19,7 @@ Headed file = textStart + textLength file ≤ length file
 pub record Put (text : List ℕ) (at : ℕ) (before after : List ℕ) (r : ℕ) : Type 0 where
   pub place : r ≡ at + length text
   pub front : take r after ≡ take at before ++ text
+
+-- the lengths as the writer puts them, a comma and a space between
+abbrev pub writtenLengths : List ℕ → List ℕ
+writtenLengths d = decimal (getD d 0 0) ++ (bytes ", " ++ (decimal (getD d 1 0) ++ (bytes ", " ++ decimal (getD d 2 0))))

@@ -1,6 +1,6 @@
 // What is such a file, and where its parts stand.
 ghost use mathlib.Core.Path.{_≡_};
-ghost use Prim.Native.Nat.{_≤_, _*_, max, min, suc};
+ghost use Prim.Native.Nat.{_<_, _≤_, _*_, max, min, suc};
 ghost use lib.ListN.{length};
 ghost use lib.Dec.{ltb};
 ghost use Rattle.npy.specs.File.{textStart, textLength, dimsOf, largestSpan, spanOf, dataOf, textOf, hasHeader, hasData, isNpy};
@@ -17,12 +17,18 @@ const LONGEST_TEXT: usize = 10000;
 // Lengths have a smaller product, zeros left out: 2^60, as NumPy's reader asks.
 const LARGEST_SPAN: usize = 1152921504606846976;
 
+fn wide(x: u8) -> usize
+    ensures { λ r. ⌜ (r ≡ x) × (r < 256) ⌝ }
+{
+    x as usize
+}
+
 // How long the header's text is.
 pub fn text_length(file: &[u8]) -> usize
     requires { ⌜ textStart ≤ length (now file) ⌝ }
     ensures { λ r. ⌜ r ≡ textLength (now (file .entry)) ⌝ }
 {
-    file[8] as usize + 256 * file[9] as usize
+    wide(file[8]) + 256 * wide(file[9])
 }
 
 fn header_in(file: &[u8]) -> Header

@@ -5,7 +5,7 @@ ghost use Prim.Native.Nat.{_+_, _-_, _≤_, _<_};
 ghost use lib.ListN.{length};
 ghost use Rattle.request.specs.Bookkeeping.{Lengths};
 ghost use Rattle.npy.specs.File.{digit, placeOf, decimal, spaces, writtenHeader};
-ghost use Rattle.npy.specs.Bookkeeping.{Put};
+ghost use Rattle.npy.specs.Bookkeeping.{Put, writtenLengths};
 
 // The bytes of a header of ours.
 pub const HEADER: usize = 128;
@@ -69,6 +69,18 @@ fn put_spaces(bytes: &mut [u8], at: usize, to: usize) -> usize
     i
 }
 
+// The three lengths, with a comma and a space between them.
+fn put_lengths(bytes: &mut [u8], at: usize, d: [usize; 3]) -> usize
+    requires { ⌜ at + 16 ≤ length (now bytes) ⌝ }
+    ensures { λ r. ⌜ Put (writtenLengths d) at (now (bytes .entry)) (now (bytes .exit)) r ⌝ }
+{
+    let a = put_decimal(bytes, at, d[0]);
+    let b = put(bytes, a, b", ");
+    let c = put_decimal(bytes, b, d[1]);
+    let e = put(bytes, c, b", ");
+    put_decimal(bytes, e, d[2])
+}
+
 // The header of a volume of these lengths.
 pub fn put_header(bytes: &mut [u8], d: [usize; 3])
     requires { ⌜ (length (now bytes) ≡ 128) × Lengths d ⌝ }
@@ -80,12 +92,8 @@ pub fn put_header(bytes: &mut [u8], d: [usize; 3])
         preamble,
         b"{'descr': '<f8', 'fortran_order': False, 'shape': (",
     );
-    let a = put_decimal(bytes, entries, d[0]);
-    let comma = put(bytes, a, b", ");
-    let b = put_decimal(bytes, comma, d[1]);
-    let comma_2 = put(bytes, b, b", ");
-    let c = put_decimal(bytes, comma_2, d[2]);
-    let end = put(bytes, c, b"), }");
+    let lengths = put_lengths(bytes, entries, d);
+    let end = put(bytes, lengths, b"), }");
     let newline = put_spaces(bytes, end, HEADER - 1);
-    put(bytes, newline, b"\n");
+    put_byte(bytes, newline, b'\n');
 }

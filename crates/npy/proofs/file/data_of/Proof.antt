@@ -1,10 +1,14 @@
 -- `npy::file::data_of` meets its contract.
+use native.Mathlib.Omega.{arith}
+use mathlib.Core.Path.{_≡_, ap, _∙_}
+use Prim.Native.Nat.{ℕ, _+_, _≤_, _-_}
+use mathlib.Core.List.{List}
+use lib.ListN.{length, take, drop, length-drop}
+use lib.Seq.{take-all}
+use Rattle.npy.specs.File.{textStart}
 use borrow.Author.Needs.{needs}
 use Rattle.npy.proofs.file.data_of.Statement.{statement}
 use Rattle.npy.proofs.file.data_of.Tie as tie
-use Rattle.npy.proofs.file.data_of.Reads as reads
-use Rattle.npy.proofs.file.data_of.Lts as lts
-use Rattle.npy.proofs.file.text_length.Reads as text-length-reads
 
 text-length-requires : tie.Need-text-length-requires
 text-length-requires c κs = search needs
@@ -22,7 +26,11 @@ part-result-end : tie.Need-part-result-end
 part-result-end c = search needs
 
 returns : tie.Need-returns
-returns c = ?
+returns c =
+    let file = c .before .before .before .args .file .now in
+    let n = textStart + c .before .text-length .result in
+    let long : length (drop n file) ≤ length file - n = omega (arith, length-drop n file) in
+    take-all (length file - n) (drop n file) long ∙ ap (λ (k : ℕ). drop (textStart + k) file) (c .before .text-length .ensures)
 
 pub data-of-spec : {M : Type 1} → statement M
 data-of-spec =

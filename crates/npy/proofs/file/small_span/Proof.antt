@@ -1,11 +1,14 @@
 -- `npy::file::small_span` meets its contract.
+use Prim.Native.Nat.{ℕ, _*_, min, max}
+use native.Mathlib.Nat.{le-max-left}
+use mathlib.Core.Path.{sym, ap, _∙_, subst}
+use lib.Dec.{ltb}
+use lib.ListN.{getD}
+use Rattle.npy.specs.File.{largestSpan}
+use Rattle.npy.proofs.Spans.{cut-below}
 use borrow.Author.Needs.{needs}
 use Rattle.npy.proofs.file.small_span.Statement.{statement}
 use Rattle.npy.proofs.file.small_span.Tie as tie
-use Rattle.npy.proofs.file.small_span.Reads as reads
-use Rattle.npy.proofs.file.small_span.Lts as lts
-use Rattle.npy.proofs.file.at_least_1.Reads as at-least-1-reads
-use Rattle.npy.proofs.file.times.Reads as times-reads
 
 array-read-at-least-1 : tie.Need-array-read-at-least-1
 array-read-at-least-1 c = search needs
@@ -32,7 +35,12 @@ times-requires-2 : tie.Need-times-requires-2
 times-requires-2 c κs = search needs
 
 returns : tie.Need-returns
-returns c = ?
+returns c =
+    let d = c .before .before .before .before .before .args .t1 in
+    let x = c .before .before .before .before .at-least-1 .ensures in
+    let y = c .before .before .before .at-least-12 .ensures in
+    let z = c .before .before .at-least-13 .ensures in
+    ap (λ (n : ℕ). ltb n largestSpan) (c .times2 .ensures ∙ (λ i. min (x i * (c .before .times .ensures ∙ (λ j. min (y j * z j) largestSpan)) i) largestSpan)) ∙ cut-below (max 1 (getD d 0 0)) (max 1 (getD d 1 0) * max 1 (getD d 2 0)) (le-max-left 1 (getD d 0 0))
 
 pub small-span-spec : {M : Type 1} → statement M
 small-span-spec =

@@ -1,9 +1,8 @@
 -- `npy::writer::put_byte` meets its contract.
+use Rattle.npy.proofs.Puts.{put-one}
 use borrow.Author.Needs.{needs}
 use Rattle.npy.proofs.writer.put_byte.Statement.{statement}
 use Rattle.npy.proofs.writer.put_byte.Tie as tie
-use Rattle.npy.proofs.writer.put_byte.Reads as reads
-use Rattle.npy.proofs.writer.put_byte.Lts as lts
 
 slice-write-bytes : tie.Need-slice-write-bytes
 slice-write-bytes c = search needs
@@ -15,7 +14,7 @@ same-length : tie.Need-same-length
 same-length c = search needs
 
 returns : tie.Need-returns
-returns c = ?
+returns c = put-one (c .args .byte) (c .args .at) (c .args .bytes .now) (c .pre)
 
 pub put-byte-spec : {M : Type 1} → statement M
 put-byte-spec = tie.close (tie.spec slice-write-bytes add-result same-length returns)

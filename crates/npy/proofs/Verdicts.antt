@@ -1,0 +1,66 @@
+-- What the checks of the reader and of the writer say.
+use Prim.Native.Nat.{ℕ, _≤_}
+use mathlib.Core.Path.{_≡_, ap, _∙_}
+use mathlib.Core.Bool.{Bool, true, false, not, _||_, cond}
+use mathlib.Core.List.{List, [], _∷_, _++_}
+use borrow.Author.Tests.{ltb-false, eq-eqb, ne-eqb}
+use Rattle.limits.specs.Limits.{mostPlaces}
+use Rattle.prefilter.specs.Volume.{countOf}
+use Rattle.request.specs.Conditions.{wrong}
+use Rattle.request.specs.Bookkeeping.{Small, Lengths}
+use Rattle.request.proofs.Requests.{small, good-lengths}
+use Rattle.refusal.specs.declared.Verdict.the-variants.{Passed, Refused}
+use Rattle.refusal.specs.declared.Refusal.{Refusal}
+use Rattle.refusal.specs.declared.Refusal.the-variants.{NotNpy, Buffer}
+use Rattle.refusal.specs.Refusals.{Check, when, first}
+use Rattle.refusal.proofs.Firsts.{all-clear, passed-on, refused-before}
+use Rattle.npy.specs.File.{isNpy, dimsOf}
+use Rattle.npy.specs.Call.{lengthChecks, readChecks, writeChecks, sizeOf}
+
+buffer-wrong : {t : Bool} → t ≡ true → first (when Buffer t ∷ []) ≡ Refused Buffer
+buffer-wrong e = ap (λ (t : Bool). cond t (Refused Buffer) Passed) e
+
+buffer-right : {t : Bool} → t ≡ false → first (when Buffer t ∷ []) ≡ Passed
+buffer-right e = ap (λ (t : Bool). cond t (Refused Buffer) Passed) e
+
+-- ---- lengths that refusals 3 and 6 let pass
+module _ (d : List ℕ) (v : first (lengthChecks d) ≡ Passed) where
+  pub passed-lengths : Lengths d
+  passed-lengths = good-lengths d (all-clear (lengthChecks d) v .0)
+
+  pub passed-small : Small d
+  passed-small = small d passed-lengths
+
+  pub passed-count : countOf d ≤ mostPlaces
+  passed-count = ltb-false mostPlaces (countOf d) (all-clear (lengthChecks d) v .1 .0)
+
+  -- ---- the writer's, behind them
+  module _ (volume bytes : ℕ) where
+    pub write-volume : (volume ≡ countOf d → ⊥) → first (writeChecks d volume bytes) ≡ Refused Buffer
+    write-volume n = passed-on (lengthChecks d) _ v ∙ buffer-wrong (ap (λ (t : Bool). not t || wrong bytes (sizeOf d)) (ne-eqb volume (countOf d) n))
+
+    pub write-bytes : volume ≡ countOf d → (bytes ≡ sizeOf d → ⊥) → first (writeChecks d volume bytes) ≡ Refused Buffer
+    write-bytes e n = passed-on (lengthChecks d) _ v ∙ buffer-wrong (ap (λ (t : Bool). not t || wrong bytes (sizeOf d)) (eq-eqb volume (countOf d) e) ∙ ap not (ne-eqb bytes (sizeOf d) n))
+
+    pub write-passed : volume ≡ countOf d → bytes ≡ sizeOf d → first (writeChecks d volume bytes) ≡ Passed
+    write-passed e f = passed-on (lengthChecks d) _ v ∙ buffer-right (ap (λ (t : Bool). not t || wrong bytes (sizeOf d)) (eq-eqb volume (countOf d) e) ∙ ap not (eq-eqb bytes (sizeOf d) f))
+
+-- ---- the reader's
+module _ (file : List ℕ) (volume : ℕ) where
+  abbrev behind : List Check
+  behind = lengthChecks (dimsOf file) ++ (when Buffer (wrong volume (countOf (dimsOf file))) ∷ [])
+
+  pub read-other : isNpy file ≡ false → first (readChecks file volume) ≡ Refused NotNpy
+  read-other e = ap (λ (t : Bool). cond (not t) (Refused NotNpy) (first behind)) e
+
+  is-file : isNpy file ≡ true → first (readChecks file volume) ≡ first behind
+  is-file e = ap (λ (t : Bool). cond (not t) (Refused NotNpy) (first behind)) e
+
+  pub read-lengths : isNpy file ≡ true → (why : Refusal) → first (lengthChecks (dimsOf file)) ≡ Refused why → first (readChecks file volume) ≡ Refused why
+  read-lengths e why r = is-file e ∙ refused-before (lengthChecks (dimsOf file)) _ why r
+
+  pub read-volume : isNpy file ≡ true → first (lengthChecks (dimsOf file)) ≡ Passed → (volume ≡ countOf (dimsOf file) → ⊥) → first (readChecks file volume) ≡ Refused Buffer
+  read-volume e v n = is-file e ∙ passed-on (lengthChecks (dimsOf file)) _ v ∙ buffer-wrong (ap not (ne-eqb volume (countOf (dimsOf file)) n))
+
+  pub read-passed : isNpy file ≡ true → first (lengthChecks (dimsOf file)) ≡ Passed → volume ≡ countOf (dimsOf file) → first (readChecks file volume) ≡ Passed
+  read-passed e v f = is-file e ∙ passed-on (lengthChecks (dimsOf file)) _ v ∙ buffer-right (ap not (eq-eqb volume (countOf (dimsOf file)) f))
