@@ -3,3 +3,4 @@ pub mod Headers
 pub mod Puts
 pub mod Spans
 pub mod Verdicts
+pub mod Files

@@ -36,19 +36,28 @@ module _ (d : List ℕ) (v : first (lengthChecks d) ≡ Passed) where
 
   -- ---- the writer's, behind them
   module _ (volume bytes : ℕ) where
+    abbrev last : List Check
+    last = when Buffer (wrong volume (countOf d) || wrong bytes (sizeOf d)) ∷ []
+
     pub write-volume : (volume ≡ countOf d → ⊥) → first (writeChecks d volume bytes) ≡ Refused Buffer
-    write-volume n = passed-on (lengthChecks d) _ v ∙ buffer-wrong (ap (λ (t : Bool). not t || wrong bytes (sizeOf d)) (ne-eqb volume (countOf d) n))
+    write-volume n = passed-on (lengthChecks d) last v ∙ buffer-wrong (ap (λ (t : Bool). not t || wrong bytes (sizeOf d)) (ne-eqb volume (countOf d) n))
 
     pub write-bytes : volume ≡ countOf d → (bytes ≡ sizeOf d → ⊥) → first (writeChecks d volume bytes) ≡ Refused Buffer
-    write-bytes e n = passed-on (lengthChecks d) _ v ∙ buffer-wrong (ap (λ (t : Bool). not t || wrong bytes (sizeOf d)) (eq-eqb volume (countOf d) e) ∙ ap not (ne-eqb bytes (sizeOf d) n))
+    write-bytes e n = passed-on (lengthChecks d) last v ∙ buffer-wrong (ap (λ (t : Bool). not t || wrong bytes (sizeOf d)) (eq-eqb volume (countOf d) e) ∙ ap not (ne-eqb bytes (sizeOf d) n))
 
     pub write-passed : volume ≡ countOf d → bytes ≡ sizeOf d → first (writeChecks d volume bytes) ≡ Passed
-    write-passed e f = passed-on (lengthChecks d) _ v ∙ buffer-right (ap (λ (t : Bool). not t || wrong bytes (sizeOf d)) (eq-eqb volume (countOf d) e) ∙ ap not (eq-eqb bytes (sizeOf d) f))
+    write-passed e f = passed-on (lengthChecks d) last v ∙ buffer-right (ap (λ (t : Bool). not t || wrong bytes (sizeOf d)) (eq-eqb volume (countOf d) e) ∙ ap not (eq-eqb bytes (sizeOf d) f))
+
+pub write-lengths : (d : List ℕ) (volume bytes : ℕ) (why : Refusal) → first (lengthChecks d) ≡ Refused why → first (writeChecks d volume bytes) ≡ Refused why
+write-lengths d volume bytes why r = refused-before (lengthChecks d) (when Buffer (wrong volume (countOf d) || wrong bytes (sizeOf d)) ∷ []) why r
 
 -- ---- the reader's
 module _ (file : List ℕ) (volume : ℕ) where
+  abbrev length-right : List Check
+  length-right = when Buffer (wrong volume (countOf (dimsOf file))) ∷ []
+
   abbrev behind : List Check
-  behind = lengthChecks (dimsOf file) ++ (when Buffer (wrong volume (countOf (dimsOf file))) ∷ [])
+  behind = lengthChecks (dimsOf file) ++ length-right
 
   pub read-other : isNpy file ≡ false → first (readChecks file volume) ≡ Refused NotNpy
   read-other e = ap (λ (t : Bool). cond (not t) (Refused NotNpy) (first behind)) e
@@ -57,10 +66,10 @@ module _ (file : List ℕ) (volume : ℕ) where
   is-file e = ap (λ (t : Bool). cond (not t) (Refused NotNpy) (first behind)) e
 
   pub read-lengths : isNpy file ≡ true → (why : Refusal) → first (lengthChecks (dimsOf file)) ≡ Refused why → first (readChecks file volume) ≡ Refused why
-  read-lengths e why r = is-file e ∙ refused-before (lengthChecks (dimsOf file)) _ why r
+  read-lengths e why r = is-file e ∙ refused-before (lengthChecks (dimsOf file)) length-right why r
 
   pub read-volume : isNpy file ≡ true → first (lengthChecks (dimsOf file)) ≡ Passed → (volume ≡ countOf (dimsOf file) → ⊥) → first (readChecks file volume) ≡ Refused Buffer
-  read-volume e v n = is-file e ∙ passed-on (lengthChecks (dimsOf file)) _ v ∙ buffer-wrong (ap not (ne-eqb volume (countOf (dimsOf file)) n))
+  read-volume e v n = is-file e ∙ passed-on (lengthChecks (dimsOf file)) length-right v ∙ buffer-wrong (ap not (ne-eqb volume (countOf (dimsOf file)) n))
 
   pub read-passed : isNpy file ≡ true → first (lengthChecks (dimsOf file)) ≡ Passed → volume ≡ countOf (dimsOf file) → first (readChecks file volume) ≡ Passed
-  read-passed e v f = is-file e ∙ passed-on (lengthChecks (dimsOf file)) _ v ∙ buffer-right (ap not (eq-eqb volume (countOf (dimsOf file)) f))
+  read-passed e v f = is-file e ∙ passed-on (lengthChecks (dimsOf file)) length-right v ∙ buffer-right (ap not (eq-eqb volume (countOf (dimsOf file)) f))

@@ -4,9 +4,8 @@ use mathlib.Core.Path.{_≡_, sym, ap, _∙_}
 use Prim.Native.Nat.{ℕ, _+_, _*_}
 use Rattle.refusal.specs.declared.Verdict.the-variants.{Passed}
 use Rattle.refusal.specs.Refusals.{first}
-use Rattle.refusal.proofs.Firsts.{refused-before}
 use Rattle.npy.specs.Call.{lengthChecks}
-use Rattle.npy.proofs.Verdicts.{passed-small, passed-count, write-volume, write-bytes, write-passed}
+use Rattle.npy.proofs.Verdicts.{passed-small, passed-count, write-volume, write-bytes, write-passed, write-lengths}
 use borrow.Author.Needs.{needs}
 use Rattle.npy.proofs.write_verdict.Statement.{statement}
 use Rattle.npy.proofs.write_verdict.Tie as tie
@@ -50,7 +49,7 @@ returns-3 c =
     sym (write-passed (a .d) (verdict (k .before)) (a .volume) (a .bytes) (c .before .if1 .left ∙ n) (c .if2 .left ∙ ap (λ (m : ℕ). 128 + m * 8) n))
 
 returns-4 : tie.Need-returns-4
-returns-4 c = let a = c .before .before .before .before .args in sym (refused-before (lengthChecks (a .d)) _ _ (sym (c .before .before .before .length-verdict .ensures) ∙ c .before .why .given .1))
+returns-4 c = let a = c .before .before .before .before .args in sym (write-lengths (a .d) (a .volume) (a .bytes) _ (sym (c .before .before .before .length-verdict .ensures) ∙ c .before .why .given .1))
 
 pub write-verdict-spec : {M : Type 1} → statement M
 write-verdict-spec =

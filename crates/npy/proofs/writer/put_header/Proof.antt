@@ -1,5 +1,6 @@
 -- `npy::writer::put_header` meets its contract.
 use native.Mathlib.Omega.{arith}
+use mathlib.Core.Path.{_≡_}
 use Rattle.npy.proofs.Puts.{put-then, lengths-short}
 use borrow.Author.Needs.{needs}
 use Rattle.npy.proofs.writer.put_header.Statement.{statement}
