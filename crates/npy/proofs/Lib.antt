@@ -3,4 +3,4 @@ pub mod Headers
 pub mod Puts
 pub mod Spans
 pub mod Verdicts
-pub mod Files
+pub mod Deciding

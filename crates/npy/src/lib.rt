@@ -1,6 +1,8 @@
 // NumPy's .npy files: their lengths, the reader, the size of a file, the writer. A volume is lent as the voxels' bits, since
 // a NaN has bits too. No caller has checked anything.
 ghost use mathlib.Core.Path.{_≡_};
+ghost use mathlib.Core.List.{[], _∷_};
+ghost use lib.ListN.{length, getD};
 ghost use Rattle.refusal.specs.Refusals.{first};
 ghost use Rattle.npy.specs.Call.{npyCallOf, lengthChecks, dimsChecks, readChecks, writeChecks, dimsCall, readCall, sizeCall, writeCall};
 use crate::file::data_of;
@@ -70,6 +72,15 @@ fn write_verdict(d: [usize; 3], volume: usize, bytes: usize) -> Verdict
     }
 }
 
+fn put_dims(dims: &mut [usize], d: [usize; 3])
+    requires { ⌜ length (now dims) ≡ 3 ⌝ }
+    ensures { λ _. ⌜ now (dims .exit) ≡ getD d 0 0 ∷ getD d 1 0 ∷ getD d 2 0 ∷ [] ⌝ }
+{
+    dims[0] = d[0];
+    dims[1] = d[1];
+    dims[2] = d[2];
+}
+
 // The lengths of any file of the kind, whether or not it can be read.
 pub fn dims(file: &[u8], dims: &mut [usize]) -> Verdict
     ensures { λ v. ⌜ npyCallOf v (now (dims .exit)) ≡ dimsCall (now (file .entry)) (now (dims .entry)) ⌝ }
@@ -80,10 +91,7 @@ pub fn dims(file: &[u8], dims: &mut [usize]) -> Verdict
     if dims.len() != 3 {
         return Verdict::Refused(Refusal::Buffer);
     }
-    let d = dims_of(file);
-    dims[0] = d[0];
-    dims[1] = d[1];
-    dims[2] = d[2];
+    put_dims(dims, dims_of(file));
     Verdict::Passed
 }
 

@@ -6,6 +6,7 @@ use Rattle.npy.proofs.dims.Reads as reads
 use Rattle.npy.proofs.dims.Lts as lts
 use Rattle.npy.proofs.file.dims_of.Reads as dims-of-reads
 use Rattle.npy.proofs.file.is_npy.Reads as is-npy-reads
+use Rattle.npy.proofs.put_dims.Reads as put-dims-reads
 
 is-npy-requires : tie.Need-is-npy-requires
 is-npy-requires c κs = search needs
@@ -19,23 +20,8 @@ returns-2 c = ?
 dims-of-requires : tie.Need-dims-of-requires
 dims-of-requires c κs = ?
 
-array-read-dims : tie.Need-array-read-dims
-array-read-dims c = search needs
-
-slice-write-dims : tie.Need-slice-write-dims
-slice-write-dims c = search needs
-
-array-read-dims-2 : tie.Need-array-read-dims-2
-array-read-dims-2 c = search needs
-
-slice-write-dims-2 : tie.Need-slice-write-dims-2
-slice-write-dims-2 c = ?
-
-array-read-dims-3 : tie.Need-array-read-dims-3
-array-read-dims-3 c = search needs
-
-slice-write-dims-3 : tie.Need-slice-write-dims-3
-slice-write-dims-3 c = ?
+put-dims-requires : tie.Need-put-dims-requires
+put-dims-requires c κs = search needs
 
 same-length : tie.Need-same-length
 same-length c = search needs
@@ -51,11 +37,6 @@ dims-spec =
     returns
     returns-2
     dims-of-requires
-    array-read-dims
-    slice-write-dims
-    array-read-dims-2
-    slice-write-dims-2
-    array-read-dims-3
-    slice-write-dims-3
+    put-dims-requires
     same-length
     returns-3)

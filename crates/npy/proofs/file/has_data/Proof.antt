@@ -9,7 +9,7 @@ use lib.ListN.{length}
 use borrow.Author.Tests.{not-true, not-false, ltb-true}
 use Rattle.prefilter.specs.Volume.{countOf}
 use Rattle.npy.specs.File.{textStart, dimsOf, largestSpan, spanOf}
-use Rattle.npy.proofs.Files.{large-span, data-there}
+use Rattle.npy.proofs.Deciding.{large-span, data-there}
 use Rattle.npy.proofs.Spans.{count-within, plane-within}
 use borrow.Author.Needs.{needs}
 use Rattle.npy.proofs.file.has_data.Statement.{statement}

@@ -4,7 +4,7 @@ use mathlib.Core.Path.{sym, ap, _∙_}
 use Rattle.text.specs.Text.{found}
 use Rattle.text.proofs.Texts.{some-left, none-left}
 use Rattle.npy.specs.declared.header.Header.{Header}
-use Rattle.npy.proofs.Files.{no-magic, long-text, cut-off, header-there}
+use Rattle.npy.proofs.Deciding.{no-magic, long-text, cut-off, header-there}
 use borrow.Author.Needs.{needs}
 use Rattle.npy.proofs.file.has_header.Statement.{statement}
 use Rattle.npy.proofs.file.has_header.Tie as tie

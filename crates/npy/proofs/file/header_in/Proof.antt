@@ -7,7 +7,7 @@ use lib.ListN.{take, drop}
 use lib.Seq.{length-take-le}
 use Rattle.npy.specs.File.{textStart}
 use Rattle.npy.specs.Bookkeeping.{headerIn}
-use Rattle.npy.proofs.Files.{from-prefix}
+use Rattle.npy.proofs.Deciding.{from-prefix}
 use borrow.Author.Needs.{needs}
 use Rattle.npy.proofs.file.header_in.Statement.{statement}
 use Rattle.npy.proofs.file.header_in.Tie as tie

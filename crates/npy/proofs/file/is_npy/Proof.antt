@@ -1,7 +1,7 @@
 -- `npy::file::is_npy` meets its contract.
 use mathlib.Core.Path.{_≡_, sym, ap, _∙_}
 use borrow.Author.Tests.{not-true, not-false}
-use Rattle.npy.proofs.Files.{headed, no-header, by-data}
+use Rattle.npy.proofs.Deciding.{headed, no-header, by-data}
 use borrow.Author.Needs.{needs}
 use Rattle.npy.proofs.file.is_npy.Statement.{statement}
 use Rattle.npy.proofs.file.is_npy.Tie as tie
