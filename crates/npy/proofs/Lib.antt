@@ -1,2 +1,5 @@
 -- The laws of files.
 pub mod Headers
+pub mod Numerals
+pub mod Written
+pub mod WrittenText

@@ -1,0 +1,160 @@
+-- The text that the writer makes is a header, and its lengths are those that were written.
+use Prim.Native.Nat.{ℕ, zero, suc, _≤_, _<_}
+use native.Mathlib.Omega.{arith}
+use mathlib.Core.Path.{_≡_, refl, ap, _∙_}
+use mathlib.Core.Bool.{Bool, true, not, _&&_}
+use mathlib.Core.List.{List, [], _∷_, _++_, append-assoc}
+use lib.Dec.{lit<}
+use lib.ListN.{getD}
+use Rattle.text.specs.declared.Kind.the-variants.{Spacing}
+use Rattle.text.specs.Text.{bytes, past, expect, found}
+use Rattle.text.specs.Numeral.{numeral, afterNumeral}
+use Rattle.npy.specs.Header.{firstLength, nextLength, afterShape, lengthsIn, keyAt, valueAt, afterEntry, firstEntry, nextEntry, afterComma, closes, eachOnce, isHeader, shapeEntry, lengthsOf}
+use Rattle.npy.specs.File.{decimal, entries, writtenText, spaces, spacesAfter, padded}
+use Rattle.npy.proofs.Headers.{shape-third}
+use Rattle.npy.proofs.Numerals.{Leads, leads-stays, decimal-leads, numeral-back, numeral-behind}
+
+-- ---- the entries, of which the last goes on with any text
+abbrev first : List ℕ → List ℕ
+first rest = bytes "'descr': '<f8', 'fortran_order': False, 'shape': (" ++ rest
+
+abbrev second : List ℕ → List ℕ
+second rest = bytes "'fortran_order': False, 'shape': (" ++ rest
+
+abbrev third : List ℕ → List ℕ
+third rest = bytes "'shape': (" ++ rest
+
+module _ (rest : List ℕ) where
+  at-first : firstEntry (entries ++ rest) ≡ first rest
+  unfolding firstEntry
+  at-first = refl
+
+  key-first : keyAt (first rest) ≡ 0
+  unfolding keyAt
+  key-first = refl
+
+  at-second : nextEntry (first rest) ≡ second rest
+  unfolding nextEntry
+  at-second = refl
+
+  key-second : keyAt (second rest) ≡ 1
+  unfolding keyAt
+  key-second = refl
+
+  at-third : nextEntry (second rest) ≡ third rest
+  unfolding nextEntry
+  at-third = refl
+
+  key-third : keyAt (third rest) ≡ 2
+  unfolding keyAt
+  key-third = refl
+
+  value-third : valueAt (third rest) ≡ bytes "(" ++ rest
+  unfolding valueAt
+  value-third = refl
+
+  -- behind its value stands what is behind the shape
+  after-third : afterEntry (third rest) ≡ afterShape (bytes "(" ++ rest)
+  unfolding afterEntry
+  after-third = refl
+
+-- ---- the shape, of three numbers that are written in one to four digits and do not begin with 0
+abbrev Plain : ℕ → Type 0
+Plain n = (1 ≤ n) × (n < 10000)
+
+abbrev fromC : ℕ → List ℕ → List ℕ
+fromC c rest = decimal c ++ (bytes "), }" ++ rest)
+
+abbrev fromB : ℕ → ℕ → List ℕ → List ℕ
+fromB b c rest = decimal b ++ (bytes ", " ++ fromC c rest)
+
+abbrev fromA : ℕ → ℕ → ℕ → List ℕ → List ℕ
+fromA a b c rest = decimal a ++ (bytes ", " ++ fromB b c rest)
+
+first-length : (rest : List ℕ) → Leads rest → firstLength (bytes "(" ++ rest) ≡ rest
+unfolding firstLength
+first-length rest h = leads-stays rest h
+
+next-length : (n : ℕ) (rest : List ℕ) → Plain n → Leads rest → nextLength (decimal n ++ (bytes ", " ++ rest)) ≡ rest
+unfolding nextLength
+next-length n rest p h = ap (λ (t : List ℕ). past Spacing (expect 44 (past Spacing t))) (numeral-behind n 44 (32 ∷ rest) (p .1) refl (p .0)) ∙ leads-stays rest h
+
+module _ (text : List ℕ) {a b c : List ℕ} (p : firstLength text ≡ a) (q : nextLength a ≡ b) (r : nextLength b ≡ c) where
+  second-found : nextLength (firstLength text) ≡ b
+  second-found = ap nextLength p ∙ q
+
+  third-found : nextLength (nextLength (firstLength text)) ≡ c
+  third-found = ap nextLength second-found ∙ r
+
+  lengths-by : lengthsIn text ≡ numeral a ∷ numeral b ∷ numeral c ∷ []
+  unfolding lengthsIn
+  lengths-by = λ i. numeral (p i) ∷ numeral (second-found i) ∷ numeral (third-found i) ∷ []
+
+  after-by : afterShape text ≡ expect 41 (past Spacing (afterNumeral c))
+  unfolding afterShape
+  after-by = ap (λ (t : List ℕ). expect 41 (past Spacing (afterNumeral t))) third-found
+
+module _ (a b c : ℕ) (rest : List ℕ) (pa : Plain a) (pb : Plain b) (pc : Plain c) where
+  at-a : firstLength (bytes "(" ++ fromA a b c rest) ≡ fromA a b c rest
+  at-a = first-length (fromA a b c rest) (decimal-leads a (bytes ", " ++ fromB b c rest) (pa .0) (pa .1))
+
+  at-b : nextLength (fromA a b c rest) ≡ fromB b c rest
+  at-b = next-length a (fromB b c rest) pa (decimal-leads b (bytes ", " ++ fromC c rest) (pb .0) (pb .1))
+
+  at-c : nextLength (fromB b c rest) ≡ fromC c rest
+  at-c = next-length b (fromC c rest) pb (decimal-leads c (bytes "), }" ++ rest) (pc .0) (pc .1))
+
+  shape-lengths : lengthsIn (bytes "(" ++ fromA a b c rest) ≡ a ∷ b ∷ c ∷ []
+  shape-lengths =
+      let na = numeral-back a 44 (32 ∷ fromB b c rest) (pa .1) refl in
+      let nb = numeral-back b 44 (32 ∷ fromC c rest) (pb .1) refl in
+      let nc = numeral-back c 41 (bytes ", }" ++ rest) (pc .1) refl in
+      lengths-by (bytes "(" ++ fromA a b c rest) at-a at-b at-c ∙ λ i. na i ∷ nb i ∷ nc i ∷ []
+
+  shape-after : afterShape (bytes "(" ++ fromA a b c rest) ≡ bytes ", }" ++ rest
+  unfolding past expect
+  shape-after = after-by (bytes "(" ++ fromA a b c rest) at-a at-b at-c ∙ ap (λ (t : List ℕ). expect 41 (past Spacing t)) (numeral-behind c 41 (bytes ", }" ++ rest) (pc .1) refl (pc .0))
+
+  -- ---- the whole text
+  abbrev whole : List ℕ
+  whole = entries ++ fromA a b c rest
+
+  whole-second : nextEntry (firstEntry whole) ≡ second (fromA a b c rest)
+  whole-second = ap nextEntry (at-first (fromA a b c rest)) ∙ at-second (fromA a b c rest)
+
+  whole-third : nextEntry (nextEntry (firstEntry whole)) ≡ third (fromA a b c rest)
+  whole-third = ap nextEntry whole-second ∙ at-third (fromA a b c rest)
+
+  whole-lengths : lengthsOf whole ≡ a ∷ b ∷ c ∷ []
+  unfolding lengthsOf
+  whole-lengths = ?l
+
+  whole-header : past Spacing rest ≡ [] → isHeader whole ≡ true
+  unfolding isHeader
+  whole-header h = ?h
+
+past-spaces : (n : ℕ) → past Spacing (spaces n ++ bytes "\n") ≡ []
+unfolding past
+past-spaces zero = refl
+past-spaces (suc n) = past-spaces n
+
+joined : (x y z rest : List ℕ) → (entries ++ (x ++ (bytes ", " ++ (y ++ (bytes ", " ++ (z ++ bytes "), }")))))) ++ rest ≡ entries ++ (x ++ (bytes ", " ++ (y ++ (bytes ", " ++ (z ++ (bytes "), }" ++ rest))))))
+joined x y z rest = simp append-assoc
+
+text-then : (d rest : List ℕ) → writtenText d ++ rest ≡ entries ++ fromA (getD d 0 0) (getD d 1 0) (getD d 2 0) rest
+unfolding writtenText
+text-then d rest = joined (decimal (getD d 0 0)) (decimal (getD d 1 0)) (decimal (getD d 2 0)) rest
+
+-- ---- the text that the writer makes
+abbrev pub Plains : List ℕ → Type 0
+Plains d = (i : ℕ) → i < 3 → (1 ≤ getD d i 0) × (getD d i 0 < 10000)
+
+module _ (d : List ℕ) (plain : Plains d) where
+  abbrev behind : List ℕ
+  behind = spaces (spacesAfter (writtenText d)) ++ bytes "\n"
+
+  pub text-header : isHeader (padded (writtenText d)) ≡ true
+  text-header = ap isHeader (text-then d behind) ∙ whole-header (getD d 0 0) (getD d 1 0) (getD d 2 0) behind (plain 0 (lit< tt)) (plain 1 (lit< tt)) (plain 2 (lit< tt)) (past-spaces (spacesAfter (writtenText d)))
+
+  pub text-lengths : lengthsOf (padded (writtenText d)) ≡ getD d 0 0 ∷ getD d 1 0 ∷ getD d 2 0 ∷ []
+  text-lengths = ap lengthsOf (text-then d behind) ∙ whole-lengths (getD d 0 0) (getD d 1 0) (getD d 2 0) behind (plain 0 (lit< tt)) (plain 1 (lit< tt)) (plain 2 (lit< tt))
