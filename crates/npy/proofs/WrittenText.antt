@@ -94,6 +94,23 @@ module _ (text : List ℕ) {a b c : List ℕ} (p : firstLength text ≡ a) (q : 
   unfolding afterShape
   after-by = ap (λ (t : List ℕ). expect 41 (past Spacing (afterNumeral t))) third-found
 
+-- ---- a header, by its entries
+lengths-at : (text : List ℕ) → lengthsOf text ≡ lengthsIn (valueAt (shapeEntry text))
+unfolding lengthsOf
+lengths-at text = refl
+
+-- behind its last entry
+abbrev ends : List ℕ → Bool
+ends entry = closes (afterComma (past Spacing (afterEntry entry)))
+
+header-by : (text : List ℕ) {a b c : List ℕ} → firstEntry text ≡ a → nextEntry (firstEntry text) ≡ b → nextEntry (nextEntry (firstEntry text)) ≡ c → isHeader text ≡ (eachOnce (keyAt a) (keyAt b) (keyAt c) && ends c)
+unfolding isHeader
+header-by text p q r = λ i. eachOnce (keyAt (p i)) (keyAt (q i)) (keyAt (r i)) && ends (r i)
+
+ends-there : (rest : List ℕ) → past Spacing rest ≡ [] → closes (afterComma (past Spacing (bytes ", }" ++ rest))) ≡ true
+unfolding closes afterComma
+ends-there rest h = ap (λ (t : List ℕ). not (found t)) h
+
 module _ (a b c : ℕ) (rest : List ℕ) (pa : Plain a) (pb : Plain b) (pc : Plain c) where
   at-a : firstLength (bytes "(" ++ fromA a b c rest) ≡ fromA a b c rest
   at-a = first-length (fromA a b c rest) (decimal-leads a (bytes ", " ++ fromB b c rest) (pa .0) (pa .1))
@@ -126,12 +143,20 @@ module _ (a b c : ℕ) (rest : List ℕ) (pa : Plain a) (pb : Plain b) (pc : Pla
   whole-third = ap nextEntry whole-second ∙ at-third (fromA a b c rest)
 
   whole-lengths : lengthsOf whole ≡ a ∷ b ∷ c ∷ []
-  unfolding lengthsOf
-  whole-lengths = ?l
+  whole-lengths =
+      let none : keyAt (firstEntry whole) ≡ 0 = ap keyAt (at-first (fromA a b c rest)) ∙ key-first (fromA a b c rest) in
+      let one : keyAt (nextEntry (firstEntry whole)) ≡ 1 = ap keyAt whole-second ∙ key-second (fromA a b c rest) in
+      let entry : shapeEntry whole ≡ third (fromA a b c rest) = shape-third whole (λ e. omega arith) (λ e. omega arith) ∙ whole-third in
+      lengths-at whole ∙ ap lengthsIn (ap valueAt entry ∙ value-third (fromA a b c rest)) ∙ shape-lengths
 
   whole-header : past Spacing rest ≡ [] → isHeader whole ≡ true
-  unfolding isHeader
-  whole-header h = ?h
+  whole-header h =
+      header-by whole (at-first (fromA a b c rest)) whole-second whole-third
+      ∙ ap (λ (k : ℕ). eachOnce k (keyAt (second (fromA a b c rest))) (keyAt (third (fromA a b c rest))) && ends (third (fromA a b c rest))) (key-first (fromA a b c rest))
+      ∙ ap (λ (k : ℕ). eachOnce 0 k (keyAt (third (fromA a b c rest))) && ends (third (fromA a b c rest))) (key-second (fromA a b c rest))
+      ∙ ap (λ (k : ℕ). eachOnce 0 1 k && ends (third (fromA a b c rest))) (key-third (fromA a b c rest))
+      ∙ ap (λ (t : List ℕ). closes (afterComma (past Spacing t))) (after-third (fromA a b c rest) ∙ shape-after)
+      ∙ ends-there rest h
 
 past-spaces : (n : ℕ) → past Spacing (spaces n ++ bytes "\n") ≡ []
 unfolding past
