@@ -133,31 +133,33 @@ module _ (a b c : ℕ) (rest : List ℕ) (pa : Plain a) (pb : Plain b) (pc : Pla
   shape-after = after-by (bytes "(" ++ fromA a b c rest) at-a at-b at-c ∙ ap (λ (t : List ℕ). expect 41 (past Spacing t)) (numeral-behind c 41 (bytes ", }" ++ rest) (pc .1) refl (pc .0))
 
   -- ---- the whole text
+  abbrev shape : List ℕ
+  shape = fromA a b c rest
+
   abbrev whole : List ℕ
-  whole = entries ++ fromA a b c rest
+  whole = entries ++ shape
 
-  whole-second : nextEntry (firstEntry whole) ≡ second (fromA a b c rest)
-  whole-second = ap nextEntry (at-first (fromA a b c rest)) ∙ at-second (fromA a b c rest)
+  whole-second : nextEntry (firstEntry whole) ≡ second shape
+  whole-second = ap nextEntry (at-first shape) ∙ at-second shape
 
-  whole-third : nextEntry (nextEntry (firstEntry whole)) ≡ third (fromA a b c rest)
-  whole-third = ap nextEntry whole-second ∙ at-third (fromA a b c rest)
+  whole-third : nextEntry (nextEntry (firstEntry whole)) ≡ third shape
+  whole-third = ap nextEntry whole-second ∙ at-third shape
 
   whole-lengths : lengthsOf whole ≡ a ∷ b ∷ c ∷ []
   whole-lengths =
-      let none : keyAt (firstEntry whole) ≡ 0 = ap keyAt (at-first (fromA a b c rest)) ∙ key-first (fromA a b c rest) in
-      let one : keyAt (nextEntry (firstEntry whole)) ≡ 1 = ap keyAt whole-second ∙ key-second (fromA a b c rest) in
-      let entry : shapeEntry whole ≡ third (fromA a b c rest) = shape-third whole (λ e. omega arith) (λ e. omega arith) ∙ whole-third in
-      lengths-at whole ∙ ap lengthsIn (ap valueAt entry ∙ value-third (fromA a b c rest)) ∙ shape-lengths
+      let none : keyAt (firstEntry whole) ≡ 0 = ap keyAt (at-first shape) ∙ key-first shape in
+      let one : keyAt (nextEntry (firstEntry whole)) ≡ 1 = ap keyAt whole-second ∙ key-second shape in
+      let entry : shapeEntry whole ≡ third shape = shape-third whole (λ e. omega arith) (λ e. omega arith) ∙ whole-third in
+      lengths-at whole ∙ ap lengthsIn (ap valueAt entry ∙ value-third shape) ∙ shape-lengths
 
   whole-header : past Spacing rest ≡ [] → isHeader whole ≡ true
   whole-header h =
-      header-by whole (at-first (fromA a b c rest)) whole-second whole-third
-      ∙ ap (λ (k : ℕ). eachOnce k (keyAt (second (fromA a b c rest))) (keyAt (third (fromA a b c rest))) && ends (third (fromA a b c rest))) (key-first (fromA a b c rest))
-      ∙ ap (λ (k : ℕ). eachOnce 0 k (keyAt (third (fromA a b c rest))) && ends (third (fromA a b c rest))) (key-second (fromA a b c rest))
-      ∙ ap (λ (k : ℕ). eachOnce 0 1 k && ends (third (fromA a b c rest))) (key-third (fromA a b c rest))
-      ∙ ap (λ (t : List ℕ). closes (afterComma (past Spacing t))) (after-third (fromA a b c rest) ∙ shape-after)
+      let behind : afterEntry (third shape) ≡ bytes ", }" ++ rest = after-third shape ∙ shape-after in
+      header-by whole (at-first shape) whole-second whole-third
+      ∙ (λ i. eachOnce (key-first shape i) (key-second shape i) (key-third shape i) && closes (afterComma (past Spacing (behind i))))
       ∙ ends-there rest h
 
+-- ---- behind the text stand spaces and a newline
 past-spaces : (n : ℕ) → past Spacing (spaces n ++ bytes "\n") ≡ []
 unfolding past
 past-spaces zero = refl
