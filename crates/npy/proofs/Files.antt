@@ -1,7 +1,7 @@
 -- What the reader finds in a file that is put together of a text and data, and what it asks of a file.
 use Prim.Native.Nat.{ℕ, _+_, _*_, _≤_, _<_}
 use native.Mathlib.Omega.{arith}
-use mathlib.Core.Path.{_≡_, refl, sym, ap, _∙_}
+use mathlib.Core.Path.{_≡_, refl, sym, _∙_}
 use mathlib.Core.Bool.{Bool, true, false, _&&_, true≢false}
 use mathlib.Core.List.{List, _++_}
 use lib.Dec.{eqb, ltb, leb}
@@ -22,11 +22,11 @@ frontOf text = magic ++ (bytesOf 2 (length text) ++ text)
 pub front-length : (text : List ℕ) → length (frontOf text) ≡ textStart + length text
 front-length text = length-append magic (bytesOf 2 (length text) ++ text) ∙ omega (arith, length-append (bytesOf 2 (length text)) text, length-bytes 2 (length text))
 
-module _ (text rest : List ℕ) (short : length text < 65536) where
-  pub made-magic : found (literal magic (frontOf text ++ rest)) ≡ true
-  unfolding literal bytesOf
-  made-magic = refl
+pub made-magic : (text rest : List ℕ) → found (literal magic (frontOf text ++ rest)) ≡ true
+unfolding literal bytesOf
+made-magic text rest = refl
 
+module _ (text rest : List ℕ) (short : length text < 65536) where
   pub made-length : textLength (frontOf text ++ rest) ≡ length text
   unfolding bytesOf
   made-length = omega arith
@@ -38,6 +38,7 @@ module _ (text rest : List ℕ) (short : length text < 65536) where
   pub made-data : dataOf (frontOf text ++ rest) ≡ rest
   made-data = drop-at (frontOf text) rest (textStart + textLength (frontOf text ++ rest)) (omega (arith, front-length text, made-length))
 
+-- ---- what makes a file one of NumPy's, and what such a file has
 both : (a b : Bool) → (a && b) ≡ true → (a ≡ true) × (b ≡ true)
 both true b e = (refl, e)
 both false b e = absurd (true≢false (sym e))
@@ -47,7 +48,6 @@ tests m s w h p e t =
     let parts = both (m && (s && (w && h))) (p && e) t in
     (both w h (both s (w && h) (both m (s && (w && h)) (parts .0) .1) .1) .0, both p e (parts .1) .1)
 
--- ---- what makes a file one of NumPy's, and what such a file has
 module _ (file : List ℕ) where
   pub npy-by :
       found (literal magic file) ≡ true → textLength file ≤ longestText → textStart + textLength file ≤ length file → isHeader (textOf file) ≡ true → spanOf (dimsOf file) < largestSpan →

@@ -47,6 +47,7 @@ place-read n p rest = by-place (λ (l : List ℕ). valueFrom (n / p / 10) (l ++ 
     written h =
         let whole : n / p / 10 * 10 + n / p % 10 ≡ n / p = omega arith in
         digit-read (n / p / 10) (n / p) rest ∙ ap (λ (m : ℕ). valueFrom m rest) whole
+
     none : n < p → valueFrom (n / p / 10) rest ≡ valueFrom (n / p) rest
     none h =
         let nothing : n / p ≡ 0 = div-eq-of-lt h in

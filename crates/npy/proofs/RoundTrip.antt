@@ -16,7 +16,7 @@ use Rattle.words.specs.Words.{wordsOf, allBytes}
 use Rattle.words.proofs.Numbers.{Below, below-drop, length-all, words-back, bytes-back}
 use Rattle.npy.specs.Header.{isHeader, lengthsOf}
 use Rattle.npy.specs.File.{magic, textStart, textLength, textOf, dataOf, dimsOf, spanOf, largestSpan, isNpy, voxelsOf, writtenText, padded, writtenHeader, written}
-use Rattle.npy.proofs.Written.{text-padded, header-length, written-length}
+use Rattle.npy.proofs.Written.{text-padded, written-length}
 use Rattle.npy.proofs.WrittenText.{Plains, text-header, text-lengths}
 use Rattle.npy.proofs.Files.{frontOf, made-magic, made-length, made-text, made-data, npy-by, npy-has}
 
@@ -82,7 +82,7 @@ module _ (d v : List ℕ) (lengths : Lengths d) (axes : length d ≡ 3) where
   written-is-npy count =
       npy-by
       (written d v)
-      (ap (λ (l : List ℕ). found (literal magic l)) (made d v) ∙ made-magic (padded (writtenText d)) (allBytes 8 v) (short d v))
+      (ap (λ (l : List ℕ). found (literal magic l)) (made d v) ∙ made-magic (padded (writtenText d)) (allBytes 8 v))
       (omega (arith, text-size d v))
       (omega (arith, text-size d v, written-length d v))
       (ap isHeader (written-text d v) ∙ text-header d plains)
@@ -113,5 +113,6 @@ module _ (file : List ℕ) (npy : isNpy file ≡ true) (below : Below 256 file) 
           let same : header ++ dataOf file ≡ file = sym again ∙ e in
           let size : length header ≡ place = omega (arith, npy-has file npy, length-append header (dataOf file), ap length same, length-drop place file) in
           ap (take place) (sym same) ∙ take-at header (dataOf file) place size
+
       whenever : take place file ≡ header → written (dimsOf file) (voxelsOf file) ≡ file
       whenever e = again ∙ ap (λ (l : List ℕ). l ++ dataOf file) (sym e) ∙ take-append-drop place file

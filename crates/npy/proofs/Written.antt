@@ -5,10 +5,11 @@ use mathlib.Core.Path.{_≡_, _∙_}
 use mathlib.Core.List.{List, _++_}
 use lib.ListN.{length, getD, length-append, length-replicate}
 use Rattle.text.specs.Text.{bytes}
-use Rattle.words.specs.Words.{bytesOf, allBytes}
-use Rattle.words.proofs.Numbers.{length-bytes, length-all}
-use Rattle.npy.specs.File.{magic, textStart, entries, decimal, writtenText, spacesAfter, spaces, padded, writtenHeader, written}
+use Rattle.words.specs.Words.{allBytes}
+use Rattle.words.proofs.Numbers.{length-all}
+use Rattle.npy.specs.File.{textStart, entries, decimal, writtenText, spacesAfter, spaces, padded, writtenHeader, written}
 use Rattle.npy.proofs.Numerals.{decimal-length}
+use Rattle.npy.proofs.Files.{front-length}
 
 -- ---- the padding, of every text
 length-padded : (text : List ℕ) → length (padded text) ≡ length text + spacesAfter text + 1
@@ -41,9 +42,7 @@ text-padded d = omega (arith, length-padded (writtenText d), text-length d)
 
 pub header-length : (d : List ℕ) → length (writtenHeader d) ≡ 128
 unfolding writtenHeader
-header-length d =
-    let text = padded (writtenText d) in
-    length-append magic (bytesOf 2 (length text) ++ text) ∙ omega (arith, length-append (bytesOf 2 (length text)) text, length-bytes 2 (length text), text-padded d)
+header-length d = front-length (padded (writtenText d)) ∙ omega (arith, text-padded d)
 
 pub written-length : (d v : List ℕ) → length (written d v) ≡ 128 + length v * 8
 unfolding written
