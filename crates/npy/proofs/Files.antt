@@ -22,6 +22,7 @@ frontOf text = magic ++ (bytesOf 2 (length text) ++ text)
 pub front-length : (text : List ℕ) → length (frontOf text) ≡ textStart + length text
 front-length text = length-append magic (bytesOf 2 (length text) ++ text) ∙ omega (arith, length-append (bytesOf 2 (length text)) text, length-bytes 2 (length text))
 
+-- the reader finds the magic string, the text and the data
 pub made-magic : (text rest : List ℕ) → found (literal magic (frontOf text ++ rest)) ≡ true
 unfolding literal bytesOf
 made-magic text rest = refl
@@ -43,6 +44,7 @@ both : (a b : Bool) → (a && b) ≡ true → (a ≡ true) × (b ≡ true)
 both true b e = (refl, e)
 both false b e = absurd (true≢false (sym e))
 
+-- of the six tests of a file, the third and the last
 tests : (m s w h p e : Bool) → (m && (s && (w && h)) && (p && e)) ≡ true → (w ≡ true) × (e ≡ true)
 tests m s w h p e t =
     let parts = both (m && (s && (w && h))) (p && e) t in

@@ -21,6 +21,7 @@ is-digit x low high = ap (λ (t : Bool). not t && leb x 57) (le-ltb x 48 low) �
 digit-is : (k : ℕ) → isDigit (digit k) ≡ true
 digit-is k = is-digit (digit k) (omega arith) (omega arith)
 
+-- a digit read on from a number
 digit-read : (m k : ℕ) (rest : List ℕ) → valueFrom m (digit k ∷ rest) ≡ valueFrom (m * 10 + k % 10) rest
 unfolding valueFrom
 digit-read m k rest =
@@ -34,17 +35,18 @@ digit-past k rest = ap (λ (t : Bool). cond t (past Digit rest) (digit k ∷ res
 -- ---- one place, written only if the number goes that far
 -- what holds of both ways to write it holds of it
 by-place : (P : List ℕ → Type 0) (n p : ℕ) → (p ≤ n → P (digit (n / p) ∷ [])) → (n < p → P []) → P (placeOf n p)
-by-place P n p yes-there no-there = go (leb p n) refl
+by-place P n p there missing = go (leb p n) refl
   where
     go : (t : Bool) → leb p n ≡ t → P (cond t (digit (n / p) ∷ []) [])
-    go true e = yes-there (leb-true p n e)
-    go false e = no-there (leb-false p n e)
+    go true e = there (leb-true p n e)
+    go false e = missing (leb-false p n e)
 
+-- read on from the places above it, a place gives the number down to it
 place-read : (n p : ℕ) (rest : List ℕ) → valueFrom (n / p / 10) (placeOf n p ++ rest) ≡ valueFrom (n / p) rest
-place-read n p rest = by-place (λ (l : List ℕ). valueFrom (n / p / 10) (l ++ rest) ≡ valueFrom (n / p) rest) n p written none
+place-read n p rest = by-place (λ (l : List ℕ). valueFrom (n / p / 10) (l ++ rest) ≡ valueFrom (n / p) rest) n p one none
   where
-    written : p ≤ n → valueFrom (n / p / 10) (digit (n / p) ∷ rest) ≡ valueFrom (n / p) rest
-    written h =
+    one : p ≤ n → valueFrom (n / p / 10) (digit (n / p) ∷ rest) ≡ valueFrom (n / p) rest
+    one h =
         let whole : n / p / 10 * 10 + n / p % 10 ≡ n / p = omega arith in
         digit-read (n / p / 10) (n / p) rest ∙ ap (λ (m : ℕ). valueFrom m rest) whole
 
@@ -69,6 +71,7 @@ unfolding decimal
 decimal-length n =
     simp length-append (omega (arith, place-length n 1000, place-length n 100, place-length n 10))
 
+-- read as a whole, and gone past as a whole
 decimal-read : (n : ℕ) (rest : List ℕ) → n < 10000 → valueFrom 0 (decimal n ++ rest) ≡ valueFrom n rest
 decimal-read n rest h =
     let thousands : 0 ≡ n / 1000 / 10 = omega arith in
@@ -96,6 +99,7 @@ abbrev pub Leads : List ℕ → Type 0
 Leads [] = ⊥
 Leads (x ∷ xs) = (48 < x) × (x ≤ 57)
 
+-- the first place that is written does not hold 0
 place-leads : (n p : ℕ) (rest : List ℕ) → 0 < p → n < 10 * p → (n < p → Leads rest) → Leads (placeOf n p ++ rest)
 place-leads n p rest pos small behind = by-place (λ (l : List ℕ). Leads (l ++ rest)) n p first behind
   where
@@ -114,6 +118,7 @@ pub leads-stays : (text : List ℕ) → Leads text → past Spacing text ≡ tex
 leads-stays [] h = absurd h
 leads-stays (x ∷ xs) h = past-stops (x ∷ xs) 0 Spacing (omega arith) (simp (ne-eqb x 32 (λ e. omega arith), ne-eqb x 9 (λ e. omega arith), ne-eqb x 10 (λ e. omega arith)))
 
+-- the reader goes past all digits of a number that does not begin with 0
 leads-after : (text : List ℕ) → Leads text → numeral text < limit → afterNumeral text ≡ past Digit text
 leads-after [] h l = absurd h
 leads-after (x ∷ xs) h l = sym (numeral-there (x ∷ xs) 0 (omega arith) (λ e. omega arith) (is-digit x (omega arith) (h .1)) l)

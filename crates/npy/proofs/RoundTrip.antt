@@ -100,6 +100,7 @@ module _ (file : List ℕ) (npy : isNpy file ≡ true) (below : Below 256 file) 
   abbrev header : List ℕ
   header = writtenHeader (dimsOf file)
 
+  -- the data comes back as it was
   again : written (dimsOf file) (voxelsOf file) ≡ header ++ dataOf file
   again =
       let bytes : allBytes 8 (voxelsOf file) ≡ dataOf file = ap (allBytes 8) (voxels-are file) ∙ bytes-back 8 (countOf (dimsOf file)) (dataOf file) (below-drop 256 place file below) (npy-has file npy .1) in

@@ -17,13 +17,16 @@ length-padded text =
     let n = spacesAfter text in
     length-append text (spaces n ++ bytes "\n") ∙ omega (arith, length-append (spaces n) (bytes "\n"), length-replicate {A = ℕ} n 32)
 
+-- "so that the data starts at a multiple of 64"
 pub data-aligned : (text : List ℕ) → (textStart + length (padded text)) % 64 ≡ 0
 data-aligned text = omega (arith, length-padded text)
 
+-- "with the fewest spaces"
 pub fewest : (text : List ℕ) (k : ℕ) → (textStart + length text + k + 1) % 64 ≡ 0 → spacesAfter text ≤ k
 fewest text k h = omega arith
 
 -- ---- our text
+-- 59 signs stand around the numbers
 around : (a b c : List ℕ) → length (entries ++ (a ++ (bytes ", " ++ (b ++ (bytes ", " ++ (c ++ bytes "), }")))))) ≡ 59 + (length a + (length b + length c))
 around a b c = simp length-append (omega arith)
 

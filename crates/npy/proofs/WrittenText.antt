@@ -59,9 +59,10 @@ module _ (rest : List ℕ) where
   after-third = refl
 
 -- ---- the shape, of three numbers that are written in one to four digits and do not begin with 0
-abbrev Plain : ℕ → Type 0
+abbrev pub Plain : ℕ → Type 0
 Plain n = (1 ≤ n) × (n < 10000)
 
+-- the text from each number on
 abbrev fromC : ℕ → List ℕ → List ℕ
 fromC c rest = decimal c ++ (bytes "), }" ++ rest)
 
@@ -71,6 +72,7 @@ fromB b c rest = decimal b ++ (bytes ", " ++ fromC c rest)
 abbrev fromA : ℕ → ℕ → ℕ → List ℕ → List ℕ
 fromA a b c rest = decimal a ++ (bytes ", " ++ fromB b c rest)
 
+-- the reader goes from number to number
 first-length : (rest : List ℕ) → Leads rest → firstLength (bytes "(" ++ rest) ≡ rest
 unfolding firstLength
 first-length rest h = leads-stays rest h
@@ -79,6 +81,7 @@ next-length : (n : ℕ) (rest : List ℕ) → Plain n → Leads rest → nextLen
 unfolding nextLength
 next-length n rest p h = ap (λ (t : List ℕ). past Spacing (expect 44 (past Spacing t))) (numeral-behind n 44 (32 ∷ rest) (p .1) refl (p .0)) ∙ leads-stays rest h
 
+-- what it takes of a shape, by the places where the numbers stand
 module _ (text : List ℕ) {a b c : List ℕ} (p : firstLength text ≡ a) (q : nextLength a ≡ b) (r : nextLength b ≡ c) where
   second-found : nextLength (firstLength text) ≡ b
   second-found = ap nextLength p ∙ q
@@ -111,6 +114,7 @@ ends-there : (rest : List ℕ) → past Spacing rest ≡ [] → closes (afterCom
 unfolding closes afterComma
 ends-there rest h = ap (λ (t : List ℕ). not (found t)) h
 
+-- ---- our shape, and our text, before any text
 module _ (a b c : ℕ) (rest : List ℕ) (pa : Plain a) (pb : Plain b) (pc : Plain c) where
   at-a : firstLength (bytes "(" ++ fromA a b c rest) ≡ fromA a b c rest
   at-a = first-length (fromA a b c rest) (decimal-leads a (bytes ", " ++ fromB b c rest) (pa .0) (pa .1))
@@ -132,7 +136,7 @@ module _ (a b c : ℕ) (rest : List ℕ) (pa : Plain a) (pb : Plain b) (pc : Pla
   unfolding past expect
   shape-after = after-by (bytes "(" ++ fromA a b c rest) at-a at-b at-c ∙ ap (λ (t : List ℕ). expect 41 (past Spacing t)) (numeral-behind c 41 (bytes ", }" ++ rest) (pc .1) refl (pc .0))
 
-  -- ---- the whole text
+  -- the text up to the shape's end, and what stands behind it
   abbrev shape : List ℕ
   shape = fromA a b c rest
 
@@ -165,6 +169,7 @@ unfolding past
 past-spaces zero = refl
 past-spaces (suc n) = past-spaces n
 
+-- our text, before any text, is grouped from the left to the right
 joined : (x y z rest : List ℕ) → (entries ++ (x ++ (bytes ", " ++ (y ++ (bytes ", " ++ (z ++ bytes "), }")))))) ++ rest ≡ entries ++ (x ++ (bytes ", " ++ (y ++ (bytes ", " ++ (z ++ (bytes "), }" ++ rest))))))
 joined x y z rest = simp append-assoc
 
@@ -172,9 +177,9 @@ text-then : (d rest : List ℕ) → writtenText d ++ rest ≡ entries ++ fromA (
 unfolding writtenText
 text-then d rest = joined (decimal (getD d 0 0)) (decimal (getD d 1 0)) (decimal (getD d 2 0)) rest
 
--- ---- the text that the writer makes
+-- ---- the text that the writer makes, of three such numbers
 abbrev pub Plains : List ℕ → Type 0
-Plains d = (i : ℕ) → i < 3 → (1 ≤ getD d i 0) × (getD d i 0 < 10000)
+Plains d = (i : ℕ) → i < 3 → Plain (getD d i 0)
 
 module _ (d : List ℕ) (plain : Plains d) where
   abbrev behind : List ℕ
