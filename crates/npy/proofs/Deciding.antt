@@ -7,7 +7,7 @@ use mathlib.Core.List.{List, [], _∷_}
 use lib.Dec.{eqb, ltb, leb}
 use lib.ListN.{length, take, drop, length-drop}
 use lib.Seq.{take-nil}
-use borrow.Author.Tests.{le-leb, lt-leb, leb-true, eqb-true}
+use borrow.Author.Tests.{le-leb, lt-leb, leb-true}
 use Rattle.prefilter.specs.Volume.{countOf}
 use Rattle.text.specs.Text.{literal, found}
 use Rattle.npy.specs.Header.{isHeader}
@@ -87,11 +87,3 @@ module _ (file : List ℕ) where
   pub by-data : hasHeader file ≡ true → hasData file ≡ isNpy file
   unfolding isNpy
   by-data e = λ i. sym e i && hasData file
-
-  pub npy-headed : isNpy file ≡ true → Headed file
-  unfolding isNpy
-  npy-headed e = headed (both (hasHeader file) (hasData file) e .0)
-
-  pub npy-data : isNpy file ≡ true → length (dataOf file) ≡ countOf (dimsOf file) * 8
-  unfolding isNpy hasData
-  npy-data e = eqb-true (length (dataOf file)) (countOf (dimsOf file) * 8) (both small-span (eqb (length (dataOf file)) (countOf (dimsOf file) * 8)) (both (hasHeader file) (hasData file) e .1) .1)

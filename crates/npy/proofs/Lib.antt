@@ -10,3 +10,4 @@ pub mod Files
 pub mod Written
 pub mod WrittenText
 pub mod RoundTrip
+pub mod PutHeader

@@ -10,8 +10,9 @@ use lib.Dec.{leb}
 use borrow.Author.Tests.{le-leb, lt-leb}
 use lib.ListN.{length, getD, take, set, length-append, replicate-append-replicate}
 use lib.Seq.{take-suc, take-suc-set}
-use Rattle.npy.specs.File.{digit, placeOf, decimal, spaces}
+use Rattle.npy.specs.File.{digit, placeOf, spaces}
 use Rattle.npy.specs.Bookkeeping.{Put, writtenLengths}
+use Rattle.npy.proofs.Numerals.{decimal-length}
 
 pub put-nothing : (at : ℕ) (l : List ℕ) → Put [] at l l at
 put-nothing at l = record { place = omega arith; front = sym (append-nil (take at l)) }
@@ -50,9 +51,5 @@ place-short n p = go (leb p n)
     go true = omega arith
     go false = omega arith
 
-pub decimal-short : (n : ℕ) → length (decimal n) ≤ 4
-unfolding decimal
-decimal-short n = simp length-append (omega (arith, place-short n 1000, place-short n 100, place-short n 10))
-
 pub lengths-short : (d : List ℕ) → length (writtenLengths d) ≤ 16
-lengths-short d = simp length-append (omega (arith, decimal-short (getD d 0 0), decimal-short (getD d 1 0), decimal-short (getD d 2 0)))
+lengths-short d = simp length-append (omega (arith, decimal-length (getD d 0 0), decimal-length (getD d 1 0), decimal-length (getD d 2 0)))

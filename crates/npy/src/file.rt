@@ -1,6 +1,6 @@
 // What is such a file, and where its parts stand.
 ghost use mathlib.Core.Path.{_≡_};
-ghost use Prim.Native.Nat.{_<_, _≤_, _*_, max, min, suc};
+ghost use Prim.Native.Nat.{_<_, _≤_, _*_, max, min};
 ghost use lib.ListN.{length};
 ghost use lib.Dec.{ltb};
 ghost use Rattle.npy.specs.File.{textStart, textLength, dimsOf, largestSpan, spanOf, dataOf, textOf, hasHeader, hasData, isNpy};

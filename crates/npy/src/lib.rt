@@ -4,7 +4,7 @@ ghost use mathlib.Core.Path.{_≡_};
 ghost use mathlib.Core.List.{[], _∷_};
 ghost use lib.ListN.{length, getD};
 ghost use Rattle.refusal.specs.Refusals.{first};
-ghost use Rattle.npy.specs.Call.{npyCallOf, lengthChecks, dimsChecks, readChecks, writeChecks, dimsCall, readCall, sizeCall, writeCall};
+ghost use Rattle.npy.specs.Call.{npyCallOf, lengthChecks, readChecks, writeChecks, dimsCall, readCall, sizeCall, writeCall};
 use crate::file::data_of;
 use crate::file::dims_of;
 use crate::file::is_npy;
@@ -124,7 +124,7 @@ pub fn write(d: [usize; 3], volume: &[u64], bytes: &mut [u8]) -> Verdict
 {
     match write_verdict(d, volume.len(), bytes.len()) {
         Verdict::Passed => {
-            put_header(&mut bytes[..HEADER], d);
+            put_header(bytes, d);
             write_words(&mut bytes[HEADER..], volume);
             Verdict::Passed
         }

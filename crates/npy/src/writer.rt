@@ -1,9 +1,8 @@
 // The writer's header, put from left to right: each function answers the place behind what it put.
 ghost use mathlib.Core.Path.{_≡_};
-ghost use mathlib.Core.List.{List, [], _∷_};
+ghost use mathlib.Core.List.{[], _∷_};
 ghost use Prim.Native.Nat.{_+_, _-_, _≤_, _<_};
-ghost use lib.ListN.{length};
-ghost use Rattle.request.specs.Bookkeeping.{Lengths};
+ghost use lib.ListN.{length, take};
 ghost use Rattle.npy.specs.File.{digit, placeOf, decimal, spaces, writtenHeader};
 ghost use Rattle.npy.specs.Bookkeeping.{Put, writtenLengths};
 
@@ -83,8 +82,8 @@ fn put_lengths(bytes: &mut [u8], at: usize, d: [usize; 3]) -> usize
 
 // The header of a volume of these lengths.
 pub fn put_header(bytes: &mut [u8], d: [usize; 3])
-    requires { ⌜ (length (now bytes) ≡ 128) × Lengths d ⌝ }
-    ensures { λ _. ⌜ now (bytes .exit) ≡ writtenHeader d ⌝ }
+    requires { ⌜ 128 ≤ length (now bytes) ⌝ }
+    ensures { λ _. ⌜ take 128 (now (bytes .exit)) ≡ writtenHeader d ⌝ }
 {
     let preamble = put(bytes, 0, b"\x93NUMPY\x01\x00\x76\x00");
     let entries = put(

@@ -1,24 +1,36 @@
 -- `npy::dims` meets its contract.
+use Prim.Native.Nat.{ℕ}
+use mathlib.Core.Path.{_≡_, refl, sym, _∙_}
+use mathlib.Core.List.{List, [], _∷_}
+use lib.ListN.{length, getD}
+use borrow.Author.Tests.{not-true, not-false}
+use Rattle.npy.specs.Header.{lengthsOf, lengthsIn}
+use Rattle.npy.specs.File.{dimsOf}
+use Rattle.npy.specs.Call.{dimsCall}
+use Rattle.npy.proofs.Files.{npy-has}
+use Rattle.npy.proofs.Verdicts.{refusing, passing, dims-other, dims-wrong, dims-passed}
 use borrow.Author.Needs.{needs}
 use Rattle.npy.proofs.dims.Statement.{statement}
 use Rattle.npy.proofs.dims.Tie as tie
-use Rattle.npy.proofs.dims.Reads as reads
-use Rattle.npy.proofs.dims.Lts as lts
-use Rattle.npy.proofs.file.dims_of.Reads as dims-of-reads
-use Rattle.npy.proofs.file.is_npy.Reads as is-npy-reads
-use Rattle.npy.proofs.put_dims.Reads as put-dims-reads
+
+-- the lengths of a file are three
+are-three : (file : List ℕ) → getD (dimsOf file) 0 0 ∷ getD (dimsOf file) 1 0 ∷ getD (dimsOf file) 2 0 ∷ [] ≡ dimsOf file
+unfolding dimsOf lengthsOf lengthsIn
+are-three file = refl
 
 is-npy-requires : tie.Need-is-npy-requires
 is-npy-requires c κs = search needs
 
 returns : tie.Need-returns
-returns c = ?
+unfolding dimsCall
+returns c = let a = c .before .before .before .before .args in refusing (dimsOf (a .file .now)) (a .dims .now) (dims-other (a .file .now) (length (a .dims .now)) (sym (c .before .is-npy .ensures) ∙ not-true _ (c .if1 .taken)))
 
 returns-2 : tie.Need-returns-2
-returns-2 c = ?
+unfolding dimsCall
+returns-2 c = let a = c .before .before .before .before .before .args in refusing (dimsOf (a .file .now)) (a .dims .now) (dims-wrong (a .file .now) (length (a .dims .now)) (sym (c .before .before .is-npy .ensures) ∙ not-false _ (c .before .if1 .left)) (c .if2 .taken))
 
 dims-of-requires : tie.Need-dims-of-requires
-dims-of-requires c κs = ?
+dims-of-requires c κs = npy-has (c .before .before .before .before .before .before .args .file .now) (sym (c .before .before .before .is-npy .ensures) ∙ not-false _ (c .before .before .if1 .left)) .0
 
 put-dims-requires : tie.Need-put-dims-requires
 put-dims-requires c κs = search needs
@@ -27,7 +39,12 @@ same-length : tie.Need-same-length
 same-length c = search needs
 
 returns-3 : tie.Need-returns-3
-returns-3 c = ?
+unfolding dimsCall
+returns-3 c =
+    let a = c .before .before .before .before .before .before .before .before .before .before .args in
+    let d = c .before .before .before .dims-of .ensures in
+    let npy = sym (c .before .before .before .before .before .before .before .is-npy .ensures) ∙ not-false _ (c .before .before .before .before .before .before .if1 .left) in
+    passing (a .dims .now) (dims-passed (a .file .now) (length (a .dims .now)) npy (c .before .before .before .before .before .if2 .left)) (c .before .before .put-dims .ensures ∙ (λ i. getD (d i) 0 0 ∷ getD (d i) 1 0 ∷ getD (d i) 2 0 ∷ []) ∙ are-three (a .file .now))
 
 pub dims-spec : {M : Type 1} → statement M
 dims-spec =

@@ -1,12 +1,9 @@
 -- `npy::length_verdict` meets its contract.
 use Prim.Native.Nat.{ℕ}
-use mathlib.Core.Path.{_≡_, sym, ap, _∙_}
-use mathlib.Core.Bool.{true, false}
+use mathlib.Core.Path.{sym, ap, _∙_}
 use lib.Dec.{ltb}
 use borrow.Author.Tests.{lt-ltb, le-ltb}
 use Rattle.limits.specs.Limits.{mostPlaces}
-use Rattle.prefilter.specs.Volume.{countOf}
-use Rattle.request.specs.Conditions.{badLengths, tooLarge}
 use Rattle.request.proofs.Requests.{small, good-lengths}
 use borrow.Author.Needs.{needs}
 use Rattle.npy.proofs.length_verdict.Statement.{statement}

@@ -8,7 +8,7 @@ use Rattle.refusal.specs.Refusals.{first}
 use Rattle.prefilter.specs.Volume.{countOf}
 use Rattle.npy.specs.File.{dimsOf}
 use Rattle.npy.specs.Call.{lengthChecks}
-use Rattle.npy.proofs.Deciding.{npy-headed}
+use Rattle.npy.proofs.Files.{npy-has}
 use Rattle.npy.proofs.Verdicts.{passed-small, read-other, read-lengths, read-volume, read-passed}
 use borrow.Author.Needs.{needs}
 use Rattle.npy.proofs.read_verdict.Statement.{statement}
@@ -21,7 +21,7 @@ returns : tie.Need-returns
 returns c = sym (read-other (c .before .before .before .args .file .now) (c .before .before .before .args .volume) (sym (c .before .is-npy .ensures) ∙ not-true _ (c .if1 .taken)))
 
 dims-of-requires : tie.Need-dims-of-requires
-dims-of-requires c κs = npy-headed (c .before .before .before .args .file .now) (sym (c .before .is-npy .ensures) ∙ not-false _ (c .if1 .left))
+dims-of-requires c κs = npy-has (c .before .before .before .args .file .now) (sym (c .before .is-npy .ensures) ∙ not-false _ (c .if1 .left)) .0
 
 length-verdict-requires : tie.Need-length-verdict-requires
 length-verdict-requires c κs = search needs

@@ -1,13 +1,11 @@
 -- `npy::size` meets its contract.
 use native.Mathlib.Omega.{arith}
-use mathlib.Core.Path.{_≡_, sym, ap, _∙_, subst}
-use mathlib.Core.List.{List}
-use Prim.Native.Nat.{ℕ, _+_, _*_, _≤_}
-use Rattle.limits.specs.Limits.{mostPlaces}
+use mathlib.Core.Path.{_≡_, sym, ap, _∙_}
+use Prim.Native.Nat.{ℕ, _+_, _*_}
 use Rattle.refusal.specs.declared.Verdict.{Verdict}
-use Rattle.refusal.specs.declared.Verdict.the-variants.{Passed, Refused}
+use Rattle.refusal.specs.declared.Verdict.the-variants.{Passed}
 use Rattle.refusal.specs.Refusals.{first}
-use Rattle.npy.specs.Call.{lengthChecks, sizeOf, sizeBy, sizeCall}
+use Rattle.npy.specs.Call.{lengthChecks, sizeBy, sizeCall}
 use Rattle.npy.proofs.Verdicts.{passed-small, passed-count}
 use borrow.Author.Needs.{needs}
 use Rattle.npy.proofs.size.Statement.{statement}

@@ -1,5 +1,5 @@
 -- `npy::file::has_data` meets its contract.
-use Prim.Native.Nat.{ℕ, _+_, _-_, _*_, _<_}
+use Prim.Native.Nat.{ℕ, _+_, _-_, _*_}
 use native.Mathlib.Omega.{arith}
 use mathlib.Core.Path.{_≡_, sym, ap, _∙_}
 use mathlib.Core.Bool.{true}
@@ -8,7 +8,7 @@ use lib.Dec.{eqb, ltb}
 use lib.ListN.{length}
 use borrow.Author.Tests.{not-true, not-false, ltb-true}
 use Rattle.prefilter.specs.Volume.{countOf}
-use Rattle.npy.specs.File.{textStart, dimsOf, largestSpan, spanOf}
+use Rattle.npy.specs.File.{textStart, largestSpan, spanOf}
 use Rattle.npy.proofs.Deciding.{large-span, data-there}
 use Rattle.npy.proofs.Spans.{count-within, plane-within}
 use borrow.Author.Needs.{needs}

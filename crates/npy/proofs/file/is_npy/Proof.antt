@@ -1,5 +1,5 @@
 -- `npy::file::is_npy` meets its contract.
-use mathlib.Core.Path.{_≡_, sym, ap, _∙_}
+use mathlib.Core.Path.{sym, _∙_}
 use borrow.Author.Tests.{not-true, not-false}
 use Rattle.npy.proofs.Deciding.{headed, no-header, by-data}
 use borrow.Author.Needs.{needs}

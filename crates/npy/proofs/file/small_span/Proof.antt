@@ -1,7 +1,7 @@
 -- `npy::file::small_span` meets its contract.
 use Prim.Native.Nat.{ℕ, _*_, min, max}
 use native.Mathlib.Nat.{le-max-left}
-use mathlib.Core.Path.{sym, ap, _∙_, subst}
+use mathlib.Core.Path.{ap, _∙_}
 use lib.Dec.{ltb}
 use lib.ListN.{getD}
 use Rattle.npy.specs.File.{largestSpan}

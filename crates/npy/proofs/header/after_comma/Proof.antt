@@ -1,5 +1,5 @@
 -- `npy::header::after_comma` meets its contract.
-use mathlib.Core.Path.{_≡_, sym, _∙_}
+use mathlib.Core.Path.{sym, _∙_}
 use Rattle.npy.specs.Header.{afterComma}
 use borrow.Author.Needs.{needs}
 use Rattle.npy.proofs.header.after_comma.Statement.{statement}

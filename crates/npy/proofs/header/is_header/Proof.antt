@@ -1,8 +1,5 @@
 -- `npy::header::is_header` meets its contract.
 use mathlib.Core.Path.{_≡_, sym, ap, _∙_}
-use mathlib.Core.Bool.{true, false}
-use mathlib.Core.List.{List}
-use Prim.Native.Nat.{ℕ}
 use lib.ListN.{drop}
 use Rattle.text.specs.declared.Kind.the-variants.{Spacing}
 use Rattle.text.specs.Text.{past}

@@ -1,9 +1,8 @@
 -- `npy::header::key_at` meets its contract.
-use mathlib.Core.Path.{_≡_, sym, ap, _∙_}
-use mathlib.Core.Bool.{true, false}
+use mathlib.Core.Path.{sym, ap, _∙_}
 use Rattle.text.specs.Text.{found}
 use Rattle.text.proofs.Texts.{some-left, none-left}
-use Rattle.npy.specs.Header.{afterKey, keyAt}
+use Rattle.npy.specs.Header.{keyAt}
 use borrow.Author.Needs.{needs}
 use Rattle.npy.proofs.header.key_at.Statement.{statement}
 use Rattle.npy.proofs.header.key_at.Tie as tie

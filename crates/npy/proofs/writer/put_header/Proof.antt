@@ -1,7 +1,13 @@
 -- `npy::writer::put_header` meets its contract.
+use Prim.Native.Nat.{ℕ, _-_, _≤_}
+use Prim.Native.Char.{code}
 use native.Mathlib.Omega.{arith}
-use mathlib.Core.Path.{_≡_}
+use mathlib.Core.Path.{_≡_, sym, ap, _∙_}
+use lib.ListN.{length, take, length-replicate}
+use Rattle.npy.specs.File.{writtenText}
 use Rattle.npy.proofs.Puts.{put-then, lengths-short}
+use Rattle.npy.proofs.PutHeader.{text-long, header-put}
+use Rattle.npy.proofs.Written.{header-length}
 use borrow.Author.Needs.{needs}
 use Rattle.npy.proofs.writer.put_header.Statement.{statement}
 use Rattle.npy.proofs.writer.put_header.Tie as tie
@@ -30,7 +36,7 @@ put-requires-3 c κs =
     let e = l .before .before .before .before in
     let p = e .before .before .before .before .before in
     let start = p .before .before .before .before in
-    omega (arith, p .put .ensures .place, p .put .kept .0, e .put2 .ensures .place, e .put2 .kept .0, l .put-lengths .ensures .place, l .put-lengths .kept .0, lengths-short (start .args .d), start .pre .0)
+    omega (arith, p .put .ensures .place, p .put .kept .0, e .put2 .ensures .place, e .put2 .kept .0, l .put-lengths .ensures .place, l .put-lengths .kept .0, lengths-short (start .args .d), start .pre)
 
 sub-put-spaces : tie.Need-sub-put-spaces
 sub-put-spaces c = search needs
@@ -42,7 +48,7 @@ put-spaces-requires c κs =
     let e = l .before .before .before .before in
     let p = e .before .before .before .before .before in
     let start = p .before .before .before .before in
-    (omega (arith, p .put .ensures .place, p .put .kept .0, e .put2 .ensures .place, e .put2 .kept .0, l .put-lengths .ensures .place, lengths-short (start .args .d), t .put3 .ensures .place, t .put3 .kept .0), omega (arith, p .put .kept .0, e .put2 .kept .0, l .put-lengths .kept .0, t .put3 .kept .0, start .pre .0))
+    (omega (arith, p .put .ensures .place, p .put .kept .0, e .put2 .ensures .place, e .put2 .kept .0, l .put-lengths .ensures .place, lengths-short (start .args .d), t .put3 .ensures .place, t .put3 .kept .0), omega (arith, p .put .kept .0, e .put2 .kept .0, l .put-lengths .kept .0, t .put3 .kept .0, start .pre))
 
 put-byte-requires : tie.Need-put-byte-requires
 put-byte-requires c κs =
@@ -52,14 +58,28 @@ put-byte-requires c κs =
     let e = l .before .before .before .before in
     let p = e .before .before .before .before .before in
     let start = p .before .before .before .before in
-    let end : s .put-spaces .result ≡ 127 = ? in
-    omega (arith, p .put .kept .0, e .put2 .kept .0, l .put-lengths .kept .0, t .put3 .kept .0, s .put-spaces .kept .0, start .pre .0)
+    let far : t .put3 .result ≤ 127 = omega (arith, p .put .ensures .place, e .put2 .ensures .place, l .put-lengths .ensures .place, lengths-short (start .args .d), t .put3 .ensures .place) in
+    let end : s .put-spaces .result ≡ 127 = omega (arith, s .put-spaces .ensures .place, length-replicate (127 - t .put3 .result) (code " ")) in
+    omega (arith, p .put .kept .0, e .put2 .kept .0, l .put-lengths .kept .0, t .put3 .kept .0, s .put-spaces .kept .0, start .pre)
 
 same-length : tie.Need-same-length
 same-length c = search needs
 
 returns : tie.Need-returns
-returns c = ?
+returns c =
+    let n = c .before .before in
+    let s = n .before .before .before .before in
+    let t = s .before .before .before .before in
+    let l = t .before .before .before .before .before in
+    let e = l .before .before .before .before in
+    let p = e .before .before .before .before .before in
+    let start = p .before .before .before .before in
+    let d = start .args .d in
+    let all = put-then (p .put .ensures) (put-then (e .put2 .ensures) (put-then (l .put-lengths .ensures) (put-then (t .put3 .ensures) (put-then (s .put-spaces .ensures) (n .put-byte .ensures))))) in
+    let few : 127 - t .put3 .result ≡ 117 - length (writtenText d) = omega (arith, text-long d, p .put .ensures .place, e .put2 .ensures .place, l .put-lengths .ensures .place, t .put3 .ensures .place) in
+    let header = header-put d (127 - t .put3 .result) few in
+    let end : n .put-byte .result ≡ 128 = omega (arith, all .place, ap length header, header-length d) in
+    ap (λ (k : ℕ). take k (n .put-byte .last .0)) (sym end) ∙ all .front ∙ header
 
 pub put-header-spec : {M : Type 1} → statement M
 put-header-spec =

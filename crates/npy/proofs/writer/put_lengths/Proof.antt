@@ -1,7 +1,8 @@
 -- `npy::writer::put_lengths` meets its contract.
 use native.Mathlib.Omega.{arith}
 use lib.ListN.{getD}
-use Rattle.npy.proofs.Puts.{put-then, decimal-short}
+use Rattle.npy.proofs.Numerals.{decimal-length}
+use Rattle.npy.proofs.Puts.{put-then}
 use borrow.Author.Needs.{needs}
 use Rattle.npy.proofs.writer.put_lengths.Statement.{statement}
 use Rattle.npy.proofs.writer.put_lengths.Tie as tie
@@ -19,7 +20,7 @@ put-requires : tie.Need-put-requires
 put-requires c κs =
     let x = c .before .before .before .before in
     let start = x .before .before .before in
-    omega (arith, x .put-decimal .ensures .place, x .put-decimal .kept .0, decimal-short (getD (start .args .t3) 0 0), start .pre)
+    omega (arith, x .put-decimal .ensures .place, x .put-decimal .kept .0, decimal-length (getD (start .args .t3) 0 0), start .pre)
 
 array-read-put-decimal-2 : tie.Need-array-read-put-decimal-2
 array-read-put-decimal-2 c = search needs
@@ -29,7 +30,7 @@ put-decimal-requires-2 c κs =
     let y = c .before .before .before in
     let x = y .before .before .before .before .before in
     let start = x .before .before .before in
-    omega (arith, x .put-decimal .ensures .place, x .put-decimal .kept .0, decimal-short (getD (start .args .t3) 0 0), y .put .ensures .place, y .put .kept .0, start .pre)
+    omega (arith, x .put-decimal .ensures .place, x .put-decimal .kept .0, decimal-length (getD (start .args .t3) 0 0), y .put .ensures .place, y .put .kept .0, start .pre)
 
 slice-aggregate-put-2 : tie.Need-slice-aggregate-put-2
 slice-aggregate-put-2 c = search needs
@@ -40,7 +41,7 @@ put-requires-2 c κs =
     let y = z .before .before .before .before in
     let x = y .before .before .before .before .before in
     let start = x .before .before .before in
-    omega (arith, x .put-decimal .ensures .place, x .put-decimal .kept .0, decimal-short (getD (start .args .t3) 0 0), y .put .ensures .place, y .put .kept .0, z .put-decimal2 .ensures .place, z .put-decimal2 .kept .0, decimal-short (getD (start .args .t3) 1 0), start .pre)
+    omega (arith, x .put-decimal .ensures .place, x .put-decimal .kept .0, decimal-length (getD (start .args .t3) 0 0), y .put .ensures .place, y .put .kept .0, z .put-decimal2 .ensures .place, z .put-decimal2 .kept .0, decimal-length (getD (start .args .t3) 1 0), start .pre)
 
 array-read-put-decimal-3 : tie.Need-array-read-put-decimal-3
 array-read-put-decimal-3 c = search needs
@@ -52,7 +53,7 @@ put-decimal-requires-3 c κs =
     let y = z .before .before .before .before in
     let x = y .before .before .before .before .before in
     let start = x .before .before .before in
-    omega (arith, x .put-decimal .ensures .place, x .put-decimal .kept .0, decimal-short (getD (start .args .t3) 0 0), y .put .ensures .place, y .put .kept .0, z .put-decimal2 .ensures .place, z .put-decimal2 .kept .0, decimal-short (getD (start .args .t3) 1 0), v .put2 .ensures .place, v .put2 .kept .0, start .pre)
+    omega (arith, x .put-decimal .ensures .place, x .put-decimal .kept .0, decimal-length (getD (start .args .t3) 0 0), y .put .ensures .place, y .put .kept .0, z .put-decimal2 .ensures .place, z .put-decimal2 .kept .0, decimal-length (getD (start .args .t3) 1 0), v .put2 .ensures .place, v .put2 .kept .0, start .pre)
 
 same-length : tie.Need-same-length
 same-length c = search needs

@@ -1,5 +1,5 @@
 -- `text::numeral::after_numeral` meets its contract.
-use mathlib.Core.Path.{sym, subst, _∙_}
+use mathlib.Core.Path.{sym, _∙_}
 use native.Mathlib.Omega.{arith}
 use Rattle.text.proofs.Texts.{zero-there, numeral-there, numeral-large, numeral-other, numeral-end}
 use borrow.Author.Needs.{needs}
