@@ -126,8 +126,9 @@ size_t vurelika_work_count(size_t d0, size_t d1, size_t d2, size_t order, uint32
 /* Files of NumPy: .npy of version 1.0 that hold little-endian f64 ('<f8') in C order on three axes. A file
  * is a buffer of bytes; opening, reading and writing it is the caller's.
  *
- * Taken is what numpy.load takes, with its lengths and its bits: the keys of the header in any order, each
- * once, either quotes, spaces, tabs and newlines between its signs, with the last comma or without. Any
+ * What is taken numpy.load takes too, with the same lengths and bits: the keys of the header in any order,
+ * each once, either quotes, spaces, tabs and newlines between its signs, with the last comma or without; as
+ * with numpy.load, at most 10,000 bytes of it, and lengths whose product, zeros left out, is below 2^60. Any
  * other file, data bytes missing or left over included, is VURELIKA_NOT_NPY. Voxels are moved, not looked
  * at: a NaN keeps its bits, and meets VURELIKA_VALUE where it is resampled.
  *
