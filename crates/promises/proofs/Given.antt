@@ -21,7 +21,7 @@ use Rattle.promises.specs.Entries.{Entry, shifting, zooming, Filter, who
 use Rattle.promises.specs.Given.{holds, FirstToHold}
 
 -- ---- checks in the order of their numbers, all above k and none above 9
-abbrev Rising : ℕ → List Check → Type 0
+abbrev pub Rising : ℕ → List Check → Type 0
 Rising k [] = k ≤ 9
 Rising k (c ∷ cs) = (k < numberOf (c .says)) × Rising (numberOf (c .says)) cs
 
@@ -114,13 +114,13 @@ nothing-found (c ∷ cs) k u h =
 
 -- ---- of a number that the list decides
 module _ (l : List Check) (u : Rising 0 l) {number : ℕ} (e : number ≡ numberBy (first l)) where
-  exactly : (n : ℕ) → 1 ≤ n → (number ≡ n) ↔ FirstToHold l n
+  pub exactly : (n : ℕ) → 1 ≤ n → (number ≡ n) ↔ FirstToHold l n
   exactly n p = (λ q. given l 0 n u p (sym e ∙ q), λ h. e ∙ only-then l 0 n u h)
 
-  success : (number ≡ 0) ↔ ((n : ℕ) → holds l n ≡ false)
+  pub success : (number ≡ 0) ↔ ((n : ℕ) → holds l n ≡ false)
   success = (λ q. nothing-holds l (sym e ∙ q), λ h. e ∙ nothing-found l 0 u h)
 
-  at-most-nine : number ≤ 9
+  pub at-most-nine : number ≤ 9
   at-most-nine = subst (λ (n : ℕ). n ≤ 9) (sym e) (one-of-nine l 0 u)
 
 -- ---- `shift` and `zoom`

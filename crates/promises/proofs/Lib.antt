@@ -26,3 +26,4 @@ pub mod Bits
 pub mod Still
 pub mod Tallies
 pub mod Staying
+pub mod Files
