@@ -27,3 +27,4 @@ pub mod Still
 pub mod Tallies
 pub mod Staying
 pub mod Files
+pub mod FileToFile

@@ -1,0 +1,82 @@
+-- A file that is read, resampled by `shift` or `zoom` and written: the file that comes out is the writer's, of that entry's output; read again it is that output. "Demands 2 and 3 then hold from file to file."
+use Prim.Native.Nat.{ℕ, _≤_}
+use mathlib.Core.Path.{_≡_, refl, sym, ap, _∙_, subst}
+use mathlib.Core.Bool.{true, false, _||_}
+use mathlib.Core.List.{List}
+use lib.ListN.{length, length-map}
+use lib.Ieee.{Float, binary64, ofBits}
+use Rattle.prefilter.specs.Volume.{countOf}
+use Rattle.request.specs.declared.Request.{Request}
+use Rattle.request.specs.Sizes.{needed, zoomDims}
+use Rattle.request.specs.Conditions.{badLengths, tooLarge}
+use Rattle.request.proofs.Requests.{or-false, good-lengths}
+use Rattle.lists.specs.Some.{someBelow}
+use Rattle.npy.specs.File.{isNpy, dimsOf, voxelsOf, written}
+use Rattle.npy.specs.Call.{NpyCall, npyCallOf, sizeOf, readCall, writeCall}
+use Rattle.npy.proofs.RoundTrip.{written-dims, written-is-npy, written-voxels}
+use Rattle.refusal.specs.declared.Verdict.the-variants.{Passed}
+use Rattle.resample.specs.Call.{Call, valuesOf, codesOf, numberIn}
+use Rattle.promises.specs.Entries.{Entry, shifting, zooming, call, axesOf, outputDims}
+use Rattle.promises.specs.Files.{volumeOf, Lent, resampled, Resamples, Goes}
+use Rattle.promises.proofs.Given.{success-exactly}
+use Rattle.promises.proofs.Succeeding.{Succeeds, succeeds}
+use Rattle.promises.proofs.Counted.{counted}
+use Rattle.promises.proofs.Files.{read-leaves, write-leaves, lengths-pass, writes}
+
+-- ---- the output lengths of a success are the writer's to take
+module _ (r : Request) (input output : List Float) (coverage : List ℕ) (work : List Float) where
+  admitted : (e : Entry) → numberIn (call e r input output coverage work .answer) ≡ 0 → (badLengths (outputDims e r) ≡ false) × (tooLarge (countOf (outputDims e r)) ≡ false)
+  unfolding badLengths
+  admitted shifting q =
+      let h = success-exactly shifting r input output coverage work .0 q in
+      let n = countOf (r .dims) in
+      (h 3, or-false (tooLarge n) (tooLarge n) (or-false (tooLarge n || tooLarge n) (tooLarge (needed r)) (h 6) .0) .1)
+  admitted zooming q =
+      let h = success-exactly zooming r input output coverage work .0 q in
+      let n = countOf (r .dims) in
+      let m = countOf (zoomDims r) in
+      (h 5, or-false (tooLarge n) (tooLarge m) (or-false (tooLarge n || tooLarge m) (tooLarge (needed r)) (h 6) .0) .1)
+
+module _ {e : Entry} {r : Request} {from : List ℕ} {lent : Lent} {out : List ℕ} (s : Resamples e r from lent out) where
+  -- the entry, called on the file's voxels
+  abbrev made : Call
+  made = call e r (volumeOf (voxelsOf from)) (lent .output) (lent .coverage) (lent .work)
+
+  resampled-is : resampled e r from lent ≡ made
+  resampled-is = ap (λ (words : List ℕ). call e r (volumeOf words) (lent .output) (lent .coverage) (lent .work)) (read-leaves from (lent .volume) (s .read) .1)
+
+  pub made-done : numberIn (made .answer) ≡ 0
+  made-done = ap (λ (c : Call). numberIn (c .answer)) (sym resampled-is) ∙ s .done
+
+  success : Succeeds e r (volumeOf (voxelsOf from)) (lent .output) (lent .coverage) (lent .work)
+  success = succeeds r (volumeOf (voxelsOf from)) (lent .output) (lent .coverage) (lent .work) e made-done
+
+  out-long : length out ≡ countOf (outputDims e r)
+  out-long = sym (length-map out (ofBits binary64)) ∙ ap length (s .bits .same ∙ ap (λ (c : Call). c .output) resampled-is) ∙ counted e r (volumeOf (voxelsOf from)) (lent .output) (lent .coverage) (lent .work) made-done .values ∙ success .passes .admitted .values
+
+  fine : (badLengths (outputDims e r) ≡ false) × (tooLarge (countOf (outputDims e r)) ≡ false)
+  fine = admitted r (volumeOf (voxelsOf from)) (lent .output) (lent .coverage) (lent .work) e made-done
+
+  -- the writer takes what the entry left
+  pub file-writes : length (lent .bytes) ≡ sizeOf (outputDims e r) → writeCall (outputDims e r) out (lent .bytes) ≡ npyCallOf Passed (written (outputDims e r) out)
+  file-writes = writes (outputDims e r) out (lent .bytes) (lengths-pass (outputDims e r) (fine .0) (fine .1)) out-long
+
+module _ {e : Entry} {r : Request} {from to codes : List ℕ} (g : Goes e r from to codes) where
+  pub file-written : to ≡ written (outputDims e r) (g .out)
+  file-written = ap (λ (n : NpyCall). n .buffer) (sym (g .wrote)) ∙ write-leaves (outputDims e r) (g .out) (g .lent .bytes) (ap (λ (n : NpyCall). n .answer) (g .wrote)) .1
+
+  pub file-read-again : (isNpy to ≡ true) × (dimsOf to ≡ outputDims e r) × (volumeOf (voxelsOf to) ≡ call e r (volumeOf (voxelsOf from)) (g .lent .output) (g .lent .coverage) (g .lent .work) .output)
+  file-read-again =
+      let d = outputDims e r in
+      let lengths = good-lengths d (fine (g .resamples) .0) in
+      let count = sym (out-long (g .resamples)) in (
+        ap isNpy file-written ∙ written-is-npy d (g .out) lengths refl count,
+        ap dimsOf file-written ∙ written-dims d (g .out) lengths refl,
+        ap (λ (f : List ℕ). volumeOf (voxelsOf f)) file-written ∙ ap volumeOf (written-voxels d (g .out) lengths refl count (g .resamples .bits .below)) ∙ g .resamples .bits .same ∙ ap (λ (c : Call). c .output) (resampled-is (g .resamples)),
+      )
+
+  -- demand 2: the definition of the entry decides each voxel of the file, and each code
+  pub file-values : (volumeOf (voxelsOf to) ≡ valuesOf r (axesOf e r) (volumeOf (voxelsOf from))) × (codes ≡ codesOf r (axesOf e r))
+  file-values =
+      let w = success (g .resamples) .writes in
+      (file-read-again .2 ∙ ap (λ (c : Call). c .output) w, sym (g .marks) ∙ ap (λ (c : Call). c .coverage) (resampled-is (g .resamples) ∙ w))
