@@ -75,8 +75,11 @@ module _ {e : Entry} {r : Request} {from to codes : List ℕ} (g : Goes e r from
         ap (λ (f : List ℕ). volumeOf (voxelsOf f)) file-written ∙ ap volumeOf (written-voxels d (g .out) lengths refl count (g .resamples .bits .below)) ∙ g .resamples .bits .same ∙ ap (λ (c : Call). c .output) (resampled-is (g .resamples)),
       )
 
+  pub made-marks : call e r (volumeOf (voxelsOf from)) (g .lent .output) (g .lent .coverage) (g .lent .work) .coverage ≡ codes
+  made-marks = ap (λ (c : Call). c .coverage) (sym (resampled-is (g .resamples))) ∙ g .marks
+
   -- demand 2: the definition of the entry decides each voxel of the file, and each code
   pub file-values : (volumeOf (voxelsOf to) ≡ valuesOf r (axesOf e r) (volumeOf (voxelsOf from))) × (codes ≡ codesOf r (axesOf e r))
   file-values =
       let w = success (g .resamples) .writes in
-      (file-read-again .2 ∙ ap (λ (c : Call). c .output) w, sym (g .marks) ∙ ap (λ (c : Call). c .coverage) (resampled-is (g .resamples) ∙ w))
+      (file-read-again .2 ∙ ap (λ (c : Call). c .output) w, sym made-marks ∙ ap (λ (c : Call). c .coverage) w)

@@ -28,3 +28,4 @@ pub mod Tallies
 pub mod Staying
 pub mod Files
 pub mod FileToFile
+pub mod FileShift
