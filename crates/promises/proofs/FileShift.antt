@@ -1,36 +1,29 @@
 -- Demand 3 from file to file: a whole shift of a file moves its voxels exactly (as numbers), and the opposite shift of the file that comes out brings them back.
-use Prim.Native.Nat.{ℕ, zero, suc, _^_, _≤_, _<_}
-use native.Mathlib.Nat.{not-suc-le-zero, le-of-suc-le-suc}
+use Prim.Native.Nat.{ℕ, _≤_}
 use mathlib.Core.Path.{_≡_, refl, sym, ap, _∙_, subst}
 use mathlib.Core.List.{List, [], _∷_}
 use lib.IntN.{ℤ, negℤ}
 use lib.Dec.{T}
-use lib.ListN.{length, getD, length-map}
-use lib.Ieee.{Float, nan, binary64, fits, ofBits}
-use lib.Ieee.Bits.{ofBits-fits}
+use lib.ListN.{length, getD}
+use lib.Ieee.{Float, binary64, fits}
 use Rattle.border.specs.declared.BorderMode.the-variants.{Constant}
+use Rattle.prefilter.specs.Volume.{countOf}
 use Rattle.request.specs.declared.Request.{Request}
+use Rattle.refusal.specs.declared.Verdict.the-variants.{Passed}
+use Rattle.refusal.specs.Refusals.{first}
 use Rattle.npy.specs.Header.{lengthsOf, lengthsIn}
 use Rattle.npy.specs.File.{dimsOf, voxelsOf}
-use Rattle.resample.specs.Call.{Call}
-use Rattle.promises.specs.Entries.{shifting}
-use Rattle.promises.specs.Moves.{F64s, Whole, Moved, Returned}
-use Rattle.promises.specs.Files.{volumeOf, Goes}
+use Rattle.npy.specs.Call.{NpyCall, lengthChecks, readCall}
+use Rattle.resample.specs.Call.{numberIn}
+use Rattle.promises.specs.Entries.{shifting, call, outputDims}
+use Rattle.promises.specs.Moves.{Whole, Moved, Returned}
+use Rattle.promises.specs.Files.{volumeOf, Lent, resampled, Goes}
 use Rattle.promises.proofs.Given.{success-exactly}
 use Rattle.promises.proofs.Moving.{whole-shift-moves}
-use Rattle.promises.proofs.Returning.{returns}
-use Rattle.promises.proofs.FileToFile.{made-done, file-read-again, made-marks}
-
--- ---- the voxels of words
-pub volume-at : (words : List ℕ) (i : ℕ) → i < length words → getD (volumeOf words) i nan ≡ ofBits binary64 (getD words i 0)
-volume-at [] i h = absurd (not-suc-le-zero h)
-volume-at (w ∷ ws) zero h = refl
-volume-at (w ∷ ws) (suc i) h = volume-at ws i (le-of-suc-le-suc h)
-
-volume-f64 : (words : List ℕ) → F64s (volumeOf words)
-volume-f64 words m l =
-    let inside : m < length words = subst (λ (n : ℕ). m < n) (length-map words (ofBits binary64)) l in
-    subst (λ (v : Float). T (fits binary64 v)) (sym (volume-at words m inside)) (ofBits-fits binary64 (getD words m 0))
+use Rattle.promises.proofs.Returning.{returns, shift-back}
+use Rattle.promises.proofs.Files.{lengths-pass, reads}
+use Rattle.promises.proofs.FileToFile.{made-done, success, fine, file-read-again, made-marks}
+use Rattle.promises.proofs.FileBits.{volume-f64}
 
 -- ---- a file has three lengths
 three-dims : (file : List ℕ) → getD (dimsOf file) 0 0 ∷ getD (dimsOf file) 1 0 ∷ getD (dimsOf file) 2 0 ∷ [] ≡ dimsOf file
@@ -61,3 +54,26 @@ pub file-shift-back :
 file-shift-back {between = between} {to} {codes' = codes'} {fill} {s} g constant low whole g' constant' low' whole' =
     returns (dimsOf _) s fill (file-shift g constant low whole)
     (subst (λ (d : List ℕ). Moved d (λ i. negℤ (s i)) fill (volumeOf (voxelsOf between)) (volumeOf (voxelsOf to)) codes') (shift-dims g) (file-shift g' constant' low' whole'))
+
+-- that the way back is not refused is part of it: lent buffers of the right lengths, the file that came out is read and shifted back
+pub file-shift-again :
+    {r : Request} {from to codes : List ℕ} {fill : Float} {s : ℕ → ℤ} →
+    Goes shifting r from to codes → r .mode ≡ Constant fill → r .order ≤ 1 → Whole r s → T (fits binary64 fill) →
+    (back : Request) (lent : Lent) → back .dims ≡ dimsOf to → back .mode ≡ Constant fill → back .order ≤ 1 → Whole back (λ i. negℤ (s i)) →
+    length (lent .volume) ≡ countOf (dimsOf to) → length (lent .output) ≡ countOf (dimsOf to) → length (lent .coverage) ≡ countOf (dimsOf to) →
+    (readCall to (lent .volume) .answer ≡ Passed) × (numberIn (resampled shifting back to lent .answer) ≡ 0)
+file-shift-again {r} {from} {to} {codes} {fill} {s} g constant low whole fill64 back lent dims constant' low' whole' volume output coverage =
+    let input = volumeOf (voxelsOf from) in
+    let l = g .lent in
+    let again = file-read-again g in
+    let clear = success-exactly shifting r input (l .output) (l .coverage) (l .work) .0 (made-done (g .resamples)) in
+    let p = success (g .resamples) .passes in
+    let same = shift-dims g ∙ sym (g .resamples .asked) in
+    let count = ap countOf same in
+    let h = shift-back r input (l .output) (l .coverage) (l .work) fill s constant low whole (volume-f64 (voxelsOf from)) fill64 (λ n _. clear n) back (lent .output) (lent .coverage) (lent .work) (dims ∙ same) constant' low' whole' (output ∙ count ∙ sym (p .admitted .values)) (coverage ∙ count ∙ sym (p .codes)) .0 in
+    let lengths = subst (λ (d : List ℕ). first (lengthChecks d) ≡ Passed) (sym (again .1)) (lengths-pass (outputDims shifting r) (fine (g .resamples) .0) (fine (g .resamples) .1)) in
+    let read = reads to (lent .volume) (voxelsOf to) (again .0) lengths volume refl in (
+      ap (λ (c : NpyCall). c .answer) read,
+      ap (λ (c : NpyCall). numberIn (call shifting back (volumeOf (c .buffer)) (lent .output) (lent .coverage) (lent .work) .answer)) read
+      ∙ ap (λ (xs : List Float). numberIn (call shifting back xs (lent .output) (lent .coverage) (lent .work) .answer)) (again .2) ∙ h,
+    )

@@ -8,7 +8,7 @@ use lib.Ieee.{Float, binary64, ofBits}
 use Rattle.prefilter.specs.Volume.{countOf}
 use Rattle.request.specs.declared.Request.{Request}
 use Rattle.request.specs.Sizes.{needed, zoomDims}
-use Rattle.request.specs.Conditions.{badLengths, tooLarge}
+use Rattle.request.specs.Conditions.{badLengths, tooLarge, wildFill, someWild}
 use Rattle.request.proofs.Requests.{or-false, good-lengths}
 use Rattle.lists.specs.Some.{someBelow}
 use Rattle.npy.specs.File.{isNpy, dimsOf, voxelsOf, written}
@@ -23,19 +23,19 @@ use Rattle.promises.proofs.Succeeding.{Succeeds, succeeds}
 use Rattle.promises.proofs.Counted.{counted}
 use Rattle.promises.proofs.Files.{read-leaves, write-leaves, lengths-pass, writes}
 
--- ---- the output lengths of a success are the writer's to take
+-- ---- what the refusals have let pass: lengths and a count that are the writer's to take, and no wild voxel
 module _ (r : Request) (input output : List Float) (coverage : List ℕ) (work : List Float) where
-  admitted : (e : Entry) → numberIn (call e r input output coverage work .answer) ≡ 0 → (badLengths (outputDims e r) ≡ false) × (tooLarge (countOf (outputDims e r)) ≡ false)
+  admitted : (e : Entry) → numberIn (call e r input output coverage work .answer) ≡ 0 → (badLengths (outputDims e r) ≡ false) × (tooLarge (countOf (outputDims e r)) ≡ false) × (someWild input ≡ false)
   unfolding badLengths
   admitted shifting q =
       let h = success-exactly shifting r input output coverage work .0 q in
       let n = countOf (r .dims) in
-      (h 3, or-false (tooLarge n) (tooLarge n) (or-false (tooLarge n || tooLarge n) (tooLarge (needed r)) (h 6) .0) .1)
+      (h 3, or-false (tooLarge n) (tooLarge n) (or-false (tooLarge n || tooLarge n) (tooLarge (needed r)) (h 6) .0) .1, or-false (wildFill (r .mode)) (someWild input) (h 8) .1)
   admitted zooming q =
       let h = success-exactly zooming r input output coverage work .0 q in
       let n = countOf (r .dims) in
       let m = countOf (zoomDims r) in
-      (h 5, or-false (tooLarge n) (tooLarge m) (or-false (tooLarge n || tooLarge m) (tooLarge (needed r)) (h 6) .0) .1)
+      (h 5, or-false (tooLarge n) (tooLarge m) (or-false (tooLarge n || tooLarge m) (tooLarge (needed r)) (h 6) .0) .1, or-false (wildFill (r .mode)) (someWild input) (h 8) .1)
 
 module _ {e : Entry} {r : Request} {from : List ℕ} {lent : Lent} {out : List ℕ} (s : Resamples e r from lent out) where
   -- the entry, called on the file's voxels
@@ -48,13 +48,13 @@ module _ {e : Entry} {r : Request} {from : List ℕ} {lent : Lent} {out : List �
   pub made-done : numberIn (made .answer) ≡ 0
   made-done = ap (λ (c : Call). numberIn (c .answer)) (sym resampled-is) ∙ s .done
 
-  success : Succeeds e r (volumeOf (voxelsOf from)) (lent .output) (lent .coverage) (lent .work)
+  pub success : Succeeds e r (volumeOf (voxelsOf from)) (lent .output) (lent .coverage) (lent .work)
   success = succeeds r (volumeOf (voxelsOf from)) (lent .output) (lent .coverage) (lent .work) e made-done
 
   out-long : length out ≡ countOf (outputDims e r)
   out-long = sym (length-map out (ofBits binary64)) ∙ ap length (s .bits .same ∙ ap (λ (c : Call). c .output) resampled-is) ∙ counted e r (volumeOf (voxelsOf from)) (lent .output) (lent .coverage) (lent .work) made-done .values ∙ success .passes .admitted .values
 
-  fine : (badLengths (outputDims e r) ≡ false) × (tooLarge (countOf (outputDims e r)) ≡ false)
+  pub fine : (badLengths (outputDims e r) ≡ false) × (tooLarge (countOf (outputDims e r)) ≡ false) × (someWild (volumeOf (voxelsOf from)) ≡ false)
   fine = admitted r (volumeOf (voxelsOf from)) (lent .output) (lent .coverage) (lent .work) e made-done
 
   -- the writer takes what the entry left

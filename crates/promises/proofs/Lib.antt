@@ -28,4 +28,5 @@ pub mod Tallies
 pub mod Staying
 pub mod Files
 pub mod FileToFile
+pub mod FileBits
 pub mod FileShift
