@@ -20,7 +20,7 @@ use Rattle.promises.specs.Moves.{F64s}
 use Rattle.promises.specs.Files.{volumeOf, NoNans, Goes}
 use Rattle.promises.proofs.WholeRequest.{not-wild}
 use Rattle.promises.proofs.Files.{read-leaves}
-use Rattle.promises.proofs.FileToFile.{fine}
+use Rattle.promises.proofs.FileToFile.{admits}
 
 -- ---- the voxels of words
 volume-at : (words : List ℕ) (i : ℕ) → i < length words → getD (volumeOf words) i nan ≡ ofBits binary64 (getD words i 0)
@@ -48,7 +48,7 @@ module _ {e : Entry} {r : Request} {from to codes : List ℕ} (g : Goes e r from
   no-nan-at : (i : ℕ) → i < length (voxelsOf from) → isNan (ofBits binary64 (getD (voxelsOf from) i 0)) ≡ false
   no-nan-at i l =
       let lent : i < length (volumeOf (voxelsOf from)) = subst (λ (n : ℕ). i < n) (sym (length-map (voxelsOf from) (ofBits binary64))) l in
-      ap isNan (sym (volume-at (voxelsOf from) i l)) ∙ a-number (getD (volumeOf (voxelsOf from)) i nan) (not-wild (volumeOf (voxelsOf from)) (fine (g .resamples) .2) i lent)
+      ap isNan (sym (volume-at (voxelsOf from) i l)) ∙ a-number (getD (volumeOf (voxelsOf from)) i nan) (not-wild (volumeOf (voxelsOf from)) (admits (g .resamples) .2) i lent)
 
   pub file-no-nan : NoNans (voxelsOf from)
   file-no-nan i l = nanBits-is binary64 (getD (voxelsOf from) i 0) ∙ no-nan-at i l

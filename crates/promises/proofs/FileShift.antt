@@ -17,12 +17,12 @@ use Rattle.npy.specs.Call.{NpyCall, lengthChecks, readCall}
 use Rattle.resample.specs.Call.{numberIn}
 use Rattle.promises.specs.Entries.{shifting, call, outputDims}
 use Rattle.promises.specs.Moves.{Whole, Moved, Returned}
-use Rattle.promises.specs.Files.{volumeOf, Lent, resampled, Goes}
+use Rattle.promises.specs.Files.{volumeOf, Lent, callOn, resampled, Goes}
 use Rattle.promises.proofs.Given.{success-exactly}
 use Rattle.promises.proofs.Moving.{whole-shift-moves}
 use Rattle.promises.proofs.Returning.{returns, shift-back}
-use Rattle.promises.proofs.Files.{lengths-pass, reads}
-use Rattle.promises.proofs.FileToFile.{made-done, success, fine, file-read-again, made-marks}
+use Rattle.promises.proofs.Files.{lengths-pass, reads-voxels}
+use Rattle.promises.proofs.FileToFile.{entry-done, entry-succeeds, admits, file-read-again, entry-marks}
 use Rattle.promises.proofs.FileBits.{volume-f64}
 
 -- ---- a file has three lengths
@@ -35,11 +35,11 @@ module _ {r : Request} {from to codes : List ℕ} (g : Goes shifting r from to c
   file-shift {fill} {s} constant low whole =
       let input = volumeOf (voxelsOf from) in
       let l = g .lent in
-      let clear = success-exactly shifting r input (l .output) (l .coverage) (l .work) .0 (made-done (g .resamples)) in
+      let clear = success-exactly shifting r input (l .output) (l .coverage) (l .work) .0 (entry-done (g .resamples)) in
       let h = whole-shift-moves r input (l .output) (l .coverage) (l .work) fill s constant low whole (volume-f64 (voxelsOf from)) (λ n _. clear n) .1 in
       let dims = g .resamples .asked in
       let after = sym (file-read-again g .2) in
-      let marks = made-marks g in
+      let marks = entry-marks g in
       subst (λ (X : Type 0). X) (λ t. Moved (dims t) s fill input (after t) (marks t)) h
 
   -- the lengths stay
@@ -66,14 +66,14 @@ file-shift-again {r} {from} {to} {codes} {fill} {s} g constant low whole fill64 
     let input = volumeOf (voxelsOf from) in
     let l = g .lent in
     let again = file-read-again g in
-    let clear = success-exactly shifting r input (l .output) (l .coverage) (l .work) .0 (made-done (g .resamples)) in
-    let p = success (g .resamples) .passes in
+    let clear = success-exactly shifting r input (l .output) (l .coverage) (l .work) .0 (entry-done (g .resamples)) in
+    let p = entry-succeeds (g .resamples) .passes in
     let same = shift-dims g ∙ sym (g .resamples .asked) in
     let count = ap countOf same in
     let h = shift-back r input (l .output) (l .coverage) (l .work) fill s constant low whole (volume-f64 (voxelsOf from)) fill64 (λ n _. clear n) back (lent .output) (lent .coverage) (lent .work) (dims ∙ same) constant' low' whole' (output ∙ count ∙ sym (p .admitted .values)) (coverage ∙ count ∙ sym (p .codes)) .0 in
-    let lengths = subst (λ (d : List ℕ). first (lengthChecks d) ≡ Passed) (sym (again .1)) (lengths-pass (outputDims shifting r) (fine (g .resamples) .0) (fine (g .resamples) .1)) in
-    let read = reads to (lent .volume) (voxelsOf to) (again .0) lengths volume refl in (
+    let lengths = subst (λ (d : List ℕ). first (lengthChecks d) ≡ Passed) (sym (again .1)) (lengths-pass (outputDims shifting r) (admits (g .resamples) .0) (admits (g .resamples) .1)) in
+    let read = reads-voxels to (lent .volume) (voxelsOf to) (again .0) lengths volume refl in (
       ap (λ (c : NpyCall). c .answer) read,
-      ap (λ (c : NpyCall). numberIn (call shifting back (volumeOf (c .buffer)) (lent .output) (lent .coverage) (lent .work) .answer)) read
-      ∙ ap (λ (xs : List Float). numberIn (call shifting back xs (lent .output) (lent .coverage) (lent .work) .answer)) (again .2) ∙ h,
+      ap (λ (c : NpyCall). numberIn (callOn shifting back (c .buffer) lent .answer)) read
+          ∙ ap (λ (xs : List Float). numberIn (call shifting back xs (lent .output) (lent .coverage) (lent .work) .answer)) (again .2) ∙ h,
     )

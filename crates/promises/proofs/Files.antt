@@ -105,13 +105,13 @@ write-leaves d volume bytes = made-by (first (writeChecks d (length volume) (len
 pub lengths-pass : (d : List ℕ) → badLengths d ≡ false → tooLarge (countOf d) ≡ false → first (lengthChecks d) ≡ Passed
 lengths-pass d a b = λ t. cond (a t) (Refused Length) (cond (b t) (Refused Count) Passed)
 
-pub reads : (file volume voxels : List ℕ) → isNpy file ≡ true → first (lengthChecks (dimsOf file)) ≡ Passed → length volume ≡ countOf (dimsOf file) → voxelsOf file ≡ voxels → readCall file volume ≡ npyCallOf Passed voxels
+pub reads-voxels : (file volume voxels : List ℕ) → isNpy file ≡ true → first (lengthChecks (dimsOf file)) ≡ Passed → length volume ≡ countOf (dimsOf file) → voxelsOf file ≡ voxels → readCall file volume ≡ npyCallOf Passed voxels
 unfolding readCall
-reads file volume voxels npy pass long same = sym (passing volume (read-passed file (length volume) npy pass long) (sym same))
+reads-voxels file volume voxels npy pass long same = sym (passing volume (read-passed file (length volume) npy pass long) (sym same))
 
-pub writes : (d volume bytes : List ℕ) → first (lengthChecks d) ≡ Passed → length volume ≡ countOf d → length bytes ≡ sizeOf d → writeCall d volume bytes ≡ npyCallOf Passed (written d volume)
+pub writes-file : (d volume bytes : List ℕ) → first (lengthChecks d) ≡ Passed → length volume ≡ countOf d → length bytes ≡ sizeOf d → writeCall d volume bytes ≡ npyCallOf Passed (written d volume)
 unfolding writeCall
-writes d volume bytes pass long size = sym (passing bytes (write-passed d pass (length volume) (length bytes) long size) refl)
+writes-file d volume bytes pass long size = sym (passing bytes (write-passed d pass (length volume) (length bytes) long size) refl)
 
 -- "reading a written volume returns the same bits"
 pub read-written : (d v bytes file volume : List ℕ) → length d ≡ 3 → Below (2 ^ 64) v → writeCall d v bytes ≡ npyCallOf Passed file → length volume ≡ length v → readCall file volume ≡ npyCallOf Passed v
@@ -122,7 +122,7 @@ read-written d v bytes file volume axes below e long =
     let dims = written-dims d v (c .lengths) axes in
     let count = sym (c .voxels) in
     subst (λ (f : List ℕ). readCall f volume ≡ npyCallOf Passed v) (sym (w .1) ∙ ap (λ (n : NpyCall). n .buffer) e)
-    (reads (written d v) volume v (written-is-npy d v (c .lengths) axes count) (subst (λ (l : List ℕ). first (lengthChecks l) ≡ Passed) (sym dims) (lengths-pass d (h .0) (h .1 .0))) (long ∙ c .voxels ∙ ap countOf (sym dims)) (written-voxels d v (c .lengths) axes count below))
+    (reads-voxels (written d v) volume v (written-is-npy d v (c .lengths) axes count) (subst (λ (l : List ℕ). first (lengthChecks l) ≡ Passed) (sym dims) (lengths-pass d (h .0) (h .1 .0))) (long ∙ c .voxels ∙ ap countOf (sym dims)) (written-voxels d v (c .lengths) axes count below))
 
 pub voxels-long : (file : List ℕ) → length (voxelsOf file) ≡ countOf (dimsOf file)
 unfolding voxelsOf
@@ -137,6 +137,6 @@ write-read file volume v bytes below e size =
     let h = all-clear (readChecks file (length volume)) (w .0) in
     let same : voxelsOf file ≡ v = sym (w .1) ∙ ap (λ (n : NpyCall). n .buffer) e in
     let again = rewritten file (read-clear file (length volume) (w .0) .0) below in
-    let out = writes (dimsOf file) (voxelsOf file) bytes (lengths-pass (dimsOf file) (h .1 .0) (h .1 .1 .0)) (voxels-long file) size in
+    let out = writes-file (dimsOf file) (voxelsOf file) bytes (lengths-pass (dimsOf file) (h .1 .0) (h .1 .1 .0)) (voxels-long file) size in
     subst (λ (l : List ℕ). (writeCall (dimsOf file) l bytes ≡ npyCallOf Passed file) ↔ (take (textStart + textLength file) file ≡ writtenHeader (dimsOf file))) same
     (λ q. again .0 (ap (λ (n : NpyCall). n .buffer) (sym out ∙ q)), λ q. out ∙ ap (npyCallOf Passed) (again .1 q))

@@ -34,9 +34,12 @@ pub record Lent : Type 0 where
   pub work : List Float
   pub bytes : List ℕ
 
--- the entry, called on what the reader left
+-- the entry, called on these words, and on what the reader left
+abbrev pub callOn : Entry → Request → List ℕ → Lent → Call
+callOn e r words lent = call e r (volumeOf words) (lent .output) (lent .coverage) (lent .work)
+
 abbrev pub resampled : Entry → Request → List ℕ → Lent → Call
-resampled e r file lent = call e r (volumeOf (readCall file (lent .volume) .buffer)) (lent .output) (lent .coverage) (lent .work)
+resampled e r file lent = callOn e r (readCall file (lent .volume) .buffer) lent
 
 -- reader and entry succeed; `out` is the bits of the entry's output
 pub record Resamples (e : Entry) (r : Request) (file : List ℕ) (lent : Lent) (out : List ℕ) : Type 0 where
