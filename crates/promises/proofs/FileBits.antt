@@ -17,9 +17,10 @@ use Rattle.npy.proofs.Verdicts.{read-clear}
 use Rattle.npy.proofs.Files.{npy-has}
 use Rattle.promises.specs.Entries.{Entry}
 use Rattle.promises.specs.Moves.{F64s}
+use Rattle.promises.specs.Filings.{reading}
 use Rattle.promises.specs.Files.{volumeOf, NoNans, Goes}
 use Rattle.promises.proofs.WholeRequest.{not-wild}
-use Rattle.promises.proofs.Files.{read-leaves}
+use Rattle.promises.proofs.Files.{file-success-leaves}
 use Rattle.promises.proofs.FileToFile.{admits}
 
 -- ---- the voxels of words
@@ -55,5 +56,5 @@ module _ {e : Entry} {r : Request} {from to codes : List ℕ} (g : Goes e r from
 
   pub file-bits : Below 256 from → (i : ℕ) → i < length (voxelsOf from) → toBits binary64 (getD (volumeOf (voxelsOf from)) i nan) ≡ getD (voxelsOf from) i 0
   file-bits bytes i l =
-      let small = voxels-below from (read-clear from (length (g .lent .volume)) (read-leaves from (g .lent .volume) (g .resamples .read) .0) .0) bytes i l in
+      let small = voxels-below from (read-clear from (length (g .lent .volume)) (file-success-leaves (reading from (g .lent .volume)) (g .resamples .read) .0) .0) bytes i l in
       ap (toBits binary64) (volume-at (voxelsOf from) i l) ∙ toBits-ofBits binary64 (getD (voxelsOf from) i 0) small (subst (λ (b : Bool). T (not b)) (sym (no-nan-at i l)) tt)

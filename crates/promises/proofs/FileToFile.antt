@@ -16,11 +16,12 @@ use Rattle.npy.proofs.RoundTrip.{written-dims, written-is-npy, written-voxels}
 use Rattle.refusal.specs.declared.Verdict.the-variants.{Passed}
 use Rattle.resample.specs.Call.{Call, valuesOf, codesOf, numberIn}
 use Rattle.promises.specs.Entries.{Entry, shifting, zooming, call, axesOf, outputDims}
+use Rattle.promises.specs.Filings.{reading, writing}
 use Rattle.promises.specs.Files.{volumeOf, Lent, callOn, resampled, Resamples, Goes}
 use Rattle.promises.proofs.Given.{success-exactly}
 use Rattle.promises.proofs.Succeeding.{Succeeds, succeeds}
 use Rattle.promises.proofs.Counted.{counted}
-use Rattle.promises.proofs.Files.{read-leaves, write-leaves, lengths-pass, writes-file}
+use Rattle.promises.proofs.Files.{file-success-leaves, lengths-pass, writes-file}
 
 -- ---- what the refusals have let pass: lengths and a count that are the writer's to take, and no wild voxel
 module _ (r : Request) (input output : List Float) (coverage : List ℕ) (work : List Float) where
@@ -38,7 +39,7 @@ module _ (r : Request) (input output : List Float) (coverage : List ℕ) (work :
 
 module _ {e : Entry} {r : Request} {from : List ℕ} {lent : Lent} {out : List ℕ} (s : Resamples e r from lent out) where
   resampled-is : resampled e r from lent ≡ callOn e r (voxelsOf from) lent
-  resampled-is = ap (λ (words : List ℕ). callOn e r words lent) (read-leaves from (lent .volume) (s .read) .1)
+  resampled-is = ap (λ (words : List ℕ). callOn e r words lent) (file-success-leaves (reading from (lent .volume)) (s .read) .1)
 
   pub entry-done : numberIn (callOn e r (voxelsOf from) lent .answer) ≡ 0
   entry-done = ap (λ (c : Call). numberIn (c .answer)) (sym resampled-is) ∙ s .done
@@ -58,7 +59,7 @@ module _ {e : Entry} {r : Request} {from : List ℕ} {lent : Lent} {out : List �
 
 module _ {e : Entry} {r : Request} {from to codes : List ℕ} (g : Goes e r from to codes) where
   pub file-written : to ≡ written (outputDims e r) (g .out)
-  file-written = ap (λ (n : NpyCall). n .buffer) (sym (g .wrote)) ∙ write-leaves (outputDims e r) (g .out) (g .lent .bytes) (ap (λ (n : NpyCall). n .answer) (g .wrote)) .1
+  file-written = ap (λ (n : NpyCall). n .buffer) (sym (g .wrote)) ∙ file-success-leaves (writing (outputDims e r) (g .out) (g .lent .bytes)) (ap (λ (n : NpyCall). n .answer) (g .wrote)) .1
 
   pub file-read-again : (isNpy to ≡ true) × (dimsOf to ≡ outputDims e r) × (volumeOf (voxelsOf to) ≡ callOn e r (voxelsOf from) (g .lent) .output)
   file-read-again =

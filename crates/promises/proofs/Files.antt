@@ -32,6 +32,10 @@ module _ (l : List Check) (u : Rising 0 l) where
   is-ten true = (λ e. refl, λ e. refl)
   is-ten false = (λ e. absurd (omega (arith, e, at-most-nine l u refl)), λ e. absurd (true≢false (sym e)))
 
+  is-most : (other : Bool) → behind other ≤ 10
+  is-most true = lit≤ tt
+  is-most false = omega (arith, at-most-nine l u refl)
+
   is-later : (other : Bool) (n : ℕ) → 1 ≤ n → n ≤ 9 → (behind other ≡ n) ↔ ((other ≡ false) × FirstToHold l n)
   is-later true n p q = (λ e. absurd (omega (arith, e, q)), λ h. absurd (true≢false (h .0)))
   is-later false n p q = let x = exactly l u refl n p in (λ e. (refl, x .0 e), λ h. x .1 (h .1))
@@ -41,7 +45,7 @@ module _ (l : List Check) (u : Rising 0 l) where
   is-none false = let x = success l u refl in (λ e. (refl, x .0 e), λ h. x .1 (h .1))
 
 -- ---- the three calls
-abbrev verdict : Filing → Verdict
+abbrev pub verdict : Filing → Verdict
 verdict c = cond (otherFile c) (Refused NotNpy) (first (fileChecks c))
 
 module _ (c : Filing) where
@@ -78,28 +82,26 @@ module _ (c : Filing) where
       kept Passed made held h = absurd (h refl)
       kept (Refused why) made held h = refl
 
+  pub file-success-leaves : fileCall c .answer ≡ Passed → (verdict c ≡ Passed) × (fileCall c .buffer ≡ made c)
+  file-success-leaves = subst (λ (n : NpyCall). n .answer ≡ Passed → (verdict c ≡ Passed) × (n .buffer ≡ made c)) (sym call-is) (left (verdict c) (made c) (held c))
+    where
+      left : (v : Verdict) (made held : List ℕ) → npyCallBy v made held .answer ≡ Passed → (v ≡ Passed) × (npyCallBy v made held .buffer ≡ made)
+      left Passed made held e = (refl, refl)
+      left (Refused why) made held e = let z : _≡_ {A = ℕ} 0 1 = cc in absurd (omega arith)
+
+  pub file-answered : fileNumber ≤ 10
+  file-answered = subst (λ (m : ℕ). m ≤ 10) (sym file-numbered) (is-most (fileChecks c) file-rising (otherFile c))
+
   -- "10, any other file"
   pub ten-exactly : (fileNumber ≡ 10) ↔ (otherFile c ≡ true)
   ten-exactly = subst (λ (m : ℕ). (m ≡ 10) ↔ (otherFile c ≡ true)) (sym file-numbered) (is-ten (fileChecks c) file-rising (otherFile c))
 
+  -- 3, 6 and 7 then, in this order
   pub file-refusal-exactly : (n : ℕ) → 1 ≤ n → n ≤ 9 → (fileNumber ≡ n) ↔ ((otherFile c ≡ false) × FirstToHold (fileChecks c) n)
   file-refusal-exactly n p q = subst (λ (m : ℕ). (m ≡ n) ↔ ((otherFile c ≡ false) × FirstToHold (fileChecks c) n)) (sym file-numbered) (is-later (fileChecks c) file-rising (otherFile c) n p q)
 
   pub file-success-exactly : (fileNumber ≡ 0) ↔ ((otherFile c ≡ false) × ((n : ℕ) → holds (fileChecks c) n ≡ false))
   file-success-exactly = subst (λ (m : ℕ). (m ≡ 0) ↔ ((otherFile c ≡ false) × ((n : ℕ) → holds (fileChecks c) n ≡ false))) (sym file-numbered) (is-none (fileChecks c) file-rising (otherFile c))
-
--- ---- what a success leaves
-made-by : (v : Verdict) (made held : List ℕ) → npyCallBy v made held .answer ≡ Passed → (v ≡ Passed) × (npyCallBy v made held .buffer ≡ made)
-made-by Passed made held e = (refl, refl)
-made-by (Refused why) made held e = let z : _≡_ {A = ℕ} 0 1 = cc in absurd (omega arith)
-
-pub read-leaves : (file volume : List ℕ) → readCall file volume .answer ≡ Passed → (first (readChecks file (length volume)) ≡ Passed) × (readCall file volume .buffer ≡ voxelsOf file)
-unfolding readCall
-read-leaves file volume = made-by (first (readChecks file (length volume))) (voxelsOf file) volume
-
-pub write-leaves : (d volume bytes : List ℕ) → writeCall d volume bytes .answer ≡ Passed → (first (writeChecks d (length volume) (length bytes)) ≡ Passed) × (writeCall d volume bytes .buffer ≡ written d volume)
-unfolding writeCall
-write-leaves d volume bytes = made-by (first (writeChecks d (length volume) (length bytes))) (written d volume) bytes
 
 -- ---- what lets reader and writer pass
 pub lengths-pass : (d : List ℕ) → badLengths d ≡ false → tooLarge (countOf d) ≡ false → first (lengthChecks d) ≡ Passed
@@ -116,7 +118,7 @@ writes-file d volume bytes pass long size = sym (passing bytes (write-passed d p
 -- "reading a written volume returns the same bits"
 pub read-written : (d v bytes file volume : List ℕ) → length d ≡ 3 → Below (2 ^ 64) v → writeCall d v bytes ≡ npyCallOf Passed file → length volume ≡ length v → readCall file volume ≡ npyCallOf Passed v
 read-written d v bytes file volume axes below e long =
-    let w = write-leaves d v bytes (ap (λ (n : NpyCall). n .answer) e) in
+    let w = file-success-leaves (writing d v bytes) (ap (λ (n : NpyCall). n .answer) e) in
     let h = all-clear (writeChecks d (length v) (length bytes)) (w .0) in
     let c = write-clear d (length v) (length bytes) (w .0) in
     let dims = written-dims d v (c .lengths) axes in
@@ -124,7 +126,7 @@ read-written d v bytes file volume axes below e long =
     subst (λ (f : List ℕ). readCall f volume ≡ npyCallOf Passed v) (sym (w .1) ∙ ap (λ (n : NpyCall). n .buffer) e)
     (reads-voxels (written d v) volume v (written-is-npy d v (c .lengths) axes count) (subst (λ (l : List ℕ). first (lengthChecks l) ≡ Passed) (sym dims) (lengths-pass d (h .0) (h .1 .0))) (long ∙ c .voxels ∙ ap countOf (sym dims)) (written-voxels d v (c .lengths) axes count below))
 
-pub voxels-long : (file : List ℕ) → length (voxelsOf file) ≡ countOf (dimsOf file)
+voxels-long : (file : List ℕ) → length (voxelsOf file) ≡ countOf (dimsOf file)
 unfolding voxelsOf
 voxels-long file = length-words 8 (countOf (dimsOf file)) _
 
@@ -133,7 +135,7 @@ pub write-read :
     (file volume v bytes : List ℕ) → Below 256 file → readCall file volume ≡ npyCallOf Passed v → length bytes ≡ sizeOf (dimsOf file) →
     (writeCall (dimsOf file) v bytes ≡ npyCallOf Passed file) ↔ (take (textStart + textLength file) file ≡ writtenHeader (dimsOf file))
 write-read file volume v bytes below e size =
-    let w = read-leaves file volume (ap (λ (n : NpyCall). n .answer) e) in
+    let w = file-success-leaves (reading file volume) (ap (λ (n : NpyCall). n .answer) e) in
     let h = all-clear (readChecks file (length volume)) (w .0) in
     let same : voxelsOf file ≡ v = sym (w .1) ∙ ap (λ (n : NpyCall). n .buffer) e in
     let again = rewritten file (read-clear file (length volume) (w .0) .0) below in
