@@ -3,16 +3,16 @@ use Prim.Native.Nat.{ℕ, _+_, _*_, _≤_, _<_}
 use native.Mathlib.Omega.{arith}
 use mathlib.Core.Path.{_≡_, refl, sym, _∙_}
 use mathlib.Core.Bool.{Bool, true, false, _&&_, true≢false}
-use mathlib.Core.List.{List, _++_}
+use mathlib.Core.List.{List, [], _∷_, _++_}
 use lib.Dec.{eqb, ltb, leb}
-use lib.ListN.{length, length-append}
+use lib.ListN.{length, getD, length-append}
 use lib.Seq.{take-at, drop-at}
 use borrow.Author.Tests.{le-leb, leb-true, lt-ltb, eq-eqb, eqb-true}
 use Rattle.prefilter.specs.Volume.{countOf}
 use Rattle.text.specs.Text.{literal, found}
 use Rattle.words.specs.Words.{bytesOf}
 use Rattle.words.proofs.Numbers.{length-bytes}
-use Rattle.npy.specs.Header.{isHeader}
+use Rattle.npy.specs.Header.{isHeader, lengthsOf, lengthsIn}
 use Rattle.npy.specs.File.{magic, textStart, textLength, textOf, dataOf, dimsOf, longestText, largestSpan, spanOf, isNpy}
 
 -- ---- a file of a text and data
@@ -38,6 +38,11 @@ module _ (text rest : List ℕ) (short : length text < 65536) where
 
   pub made-data : dataOf (frontOf text ++ rest) ≡ rest
   made-data = drop-at (frontOf text) rest (textStart + textLength (frontOf text ++ rest)) (omega (arith, front-length text, made-length))
+
+-- ---- a file has three lengths
+pub three-dims : (file : List ℕ) → getD (dimsOf file) 0 0 ∷ getD (dimsOf file) 1 0 ∷ getD (dimsOf file) 2 0 ∷ [] ≡ dimsOf file
+unfolding dimsOf lengthsOf lengthsIn
+three-dims file = refl
 
 -- ---- what makes a file one of NumPy's, and what such a file has
 both : (a b : Bool) → (a && b) ≡ true → (a ≡ true) × (b ≡ true)

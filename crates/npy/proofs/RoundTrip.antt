@@ -12,8 +12,8 @@ use lib.Seq.{take-at}
 use Rattle.prefilter.specs.Volume.{countOf}
 use Rattle.request.specs.Bookkeeping.{Lengths}
 use Rattle.text.specs.Text.{literal, found}
-use Rattle.words.specs.Words.{wordsOf, allBytes}
-use Rattle.words.proofs.Numbers.{Below, below-drop, length-all, words-back, bytes-back}
+use Rattle.words.specs.Words.{wordsOf, allBytes, Below}
+use Rattle.words.proofs.Numbers.{below-drop, length-all, words-back, bytes-back}
 use Rattle.npy.specs.Header.{isHeader, lengthsOf}
 use Rattle.npy.specs.File.{magic, textStart, textLength, textOf, dataOf, dimsOf, spanOf, largestSpan, isNpy, voxelsOf, writtenText, padded, writtenHeader, written}
 use Rattle.npy.proofs.Written.{text-padded, written-length}

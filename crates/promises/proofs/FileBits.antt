@@ -9,7 +9,8 @@ use lib.ListN.{length, getD, length-map}
 use lib.Ieee.{Float, nan, inf, fin, binary64, fits, isNan, ofBits, toBits}
 use lib.Ieee.Scale.{finite}
 use lib.Ieee.Bits.{nanBits-is, ofBits-fits, toBits-ofBits}
-use Rattle.words.proofs.Numbers.{Below, below-drop, words-below}
+use Rattle.words.specs.Words.{Below}
+use Rattle.words.proofs.Numbers.{below-drop, words-below}
 use Rattle.prefilter.specs.Volume.{countOf}
 use Rattle.request.specs.declared.Request.{Request}
 use Rattle.npy.specs.File.{textStart, textLength, dataOf, dimsOf, isNpy, voxelsOf}

@@ -11,9 +11,9 @@ use Rattle.prefilter.specs.Volume.{countOf}
 use Rattle.request.specs.declared.Request.{Request}
 use Rattle.refusal.specs.declared.Verdict.the-variants.{Passed}
 use Rattle.refusal.specs.Refusals.{first}
-use Rattle.npy.specs.Header.{lengthsOf, lengthsIn}
 use Rattle.npy.specs.File.{dimsOf, voxelsOf}
 use Rattle.npy.specs.Call.{NpyCall, lengthChecks, readCall}
+use Rattle.npy.proofs.Files.{three-dims}
 use Rattle.resample.specs.Call.{numberIn}
 use Rattle.promises.specs.Entries.{shifting, call, outputDims}
 use Rattle.promises.specs.Moves.{Whole, Moved, Returned}
@@ -24,11 +24,6 @@ use Rattle.promises.proofs.Returning.{returns, shift-back}
 use Rattle.promises.proofs.Files.{lengths-pass, reads-voxels}
 use Rattle.promises.proofs.FileToFile.{entry-done, entry-succeeds, admits, file-read-again, entry-marks}
 use Rattle.promises.proofs.FileBits.{volume-f64}
-
--- ---- a file has three lengths
-three-dims : (file : List ℕ) → getD (dimsOf file) 0 0 ∷ getD (dimsOf file) 1 0 ∷ getD (dimsOf file) 2 0 ∷ [] ≡ dimsOf file
-unfolding dimsOf lengthsOf lengthsIn
-three-dims file = refl
 
 module _ {r : Request} {from to codes : List ℕ} (g : Goes shifting r from to codes) where
   pub file-shift : {fill : Float} {s : ℕ → ℤ} → r .mode ≡ Constant fill → r .order ≤ 1 → Whole r s → Moved (dimsOf from) s fill (volumeOf (voxelsOf from)) (volumeOf (voxelsOf to)) codes

@@ -7,7 +7,8 @@ use mathlib.Core.Bool.{Bool, true, false, cond, true≢false}
 use mathlib.Core.List.{List}
 use lib.Dec.{lit≤}
 use lib.ListN.{length, take}
-use Rattle.words.proofs.Numbers.{Below, length-words}
+use Rattle.words.specs.Words.{Below}
+use Rattle.words.proofs.Numbers.{length-words}
 use Rattle.prefilter.specs.Volume.{countOf}
 use Rattle.request.specs.Conditions.{badLengths, tooLarge}
 use Rattle.refusal.specs.declared.Refusal.the-variants.{NotNpy, Length, Count}

@@ -7,7 +7,7 @@ use lib.ListN.{length, getD}
 use lib.Ieee.{Float, binary64, ofBits, nanBits}
 use Rattle.request.specs.declared.Request.{Request}
 use Rattle.refusal.specs.declared.Verdict.the-variants.{Passed}
-use Rattle.words.proofs.Numbers.{Below}
+use Rattle.words.specs.Words.{Below}
 use Rattle.npy.specs.File.{dimsOf}
 use Rattle.npy.specs.Call.{npyCallOf, readCall, writeCall}
 use Rattle.resample.specs.Call.{Call, numberIn}

@@ -9,11 +9,7 @@ use mathlib.Core.List.{List, [], _∷_, _++_}
 use lib.ListN.{length, getD, take, drop, length-append, length-take, length-drop, take-append-drop, List·getD-append}
 use lib.Seq.{length-take-le, take-at, drop-at, getD-take, getD-drop, getD-append-add, drop-drop}
 use Rattle.lists.proofs.Stretches.{next, part-length, stretch-within}
-use Rattle.words.specs.Words.{wordOf, bytesOf, wordsOf, allBytes}
-
--- each of these numbers is below m
-abbrev pub Below : ℕ → List ℕ → Type 0
-Below m l = (i : ℕ) → i < length l → getD l i 0 < m
+use Rattle.words.specs.Words.{wordOf, bytesOf, wordsOf, allBytes, Below}
 
 -- ---- how many there are
 pub length-bytes : (n word : ℕ) → length (bytesOf n word) ≡ n

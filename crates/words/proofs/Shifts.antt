@@ -11,8 +11,8 @@ use lib.ListN.{length, getD, take, drop, set, length-drop, length-set}
 use lib.Seq.{ext-getD, getD-drop, length-take-le}
 use Rattle.lists.specs.Bookkeeping.{Filled}
 use Rattle.lists.proofs.Stretches.{put}
-use Rattle.words.specs.Words.{wordOf, bytesOf}
-use Rattle.words.proofs.Numbers.{Below, length-bytes, word-below, below-take, below-drop}
+use Rattle.words.specs.Words.{wordOf, bytesOf, Below}
+use Rattle.words.proofs.Numbers.{length-bytes, word-below, below-take, below-drop}
 
 -- a byte is eight digits
 pow-bytes : (n : ℕ) → 256 ^ n ≡ 2 ^ (8 * n)

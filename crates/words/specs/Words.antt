@@ -1,7 +1,7 @@
 -- Words, each as so many bytes with the lowest byte first (little-endian), as the files .npy and .nii hold them.
-use Prim.Native.Nat.{ℕ, zero, suc, _+_, _*_, _/_, _%_}
+use Prim.Native.Nat.{ℕ, zero, suc, _+_, _*_, _/_, _%_, _<_}
 use mathlib.Core.List.{List, [], _∷_, _++_}
-use lib.ListN.{take, drop}
+use lib.ListN.{length, getD, take, drop}
 
 -- the word that these bytes write
 unfoldable pub wordOf : List ℕ → ℕ
@@ -24,3 +24,7 @@ unfoldable pub allBytes : ℕ → List ℕ → List ℕ
 unfolding bytesOf
 allBytes width [] = []
 allBytes width (word ∷ words) = bytesOf width word ++ allBytes width words
+
+-- each number of a list is below a bound: 256 for bytes
+abbrev pub Below : ℕ → List ℕ → Type 0
+Below m l = (i : ℕ) → i < length l → getD l i 0 < m

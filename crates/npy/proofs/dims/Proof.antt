@@ -1,22 +1,15 @@
 -- `npy::dims` meets its contract.
-use Prim.Native.Nat.{ℕ}
-use mathlib.Core.Path.{_≡_, refl, sym, _∙_}
-use mathlib.Core.List.{List, [], _∷_}
+use mathlib.Core.Path.{sym, _∙_}
+use mathlib.Core.List.{[], _∷_}
 use lib.ListN.{length, getD}
 use borrow.Author.Tests.{not-true, not-false}
-use Rattle.npy.specs.Header.{lengthsOf, lengthsIn}
 use Rattle.npy.specs.File.{dimsOf}
 use Rattle.npy.specs.Call.{dimsCall}
-use Rattle.npy.proofs.Files.{npy-has}
+use Rattle.npy.proofs.Files.{three-dims, npy-has}
 use Rattle.npy.proofs.Verdicts.{refusing, passing, dims-other, dims-wrong, dims-passed}
 use borrow.Author.Needs.{needs}
 use Rattle.npy.proofs.dims.Statement.{statement}
 use Rattle.npy.proofs.dims.Tie as tie
-
--- the lengths of a file are three
-are-three : (file : List ℕ) → getD (dimsOf file) 0 0 ∷ getD (dimsOf file) 1 0 ∷ getD (dimsOf file) 2 0 ∷ [] ≡ dimsOf file
-unfolding dimsOf lengthsOf lengthsIn
-are-three file = refl
 
 is-npy-requires : tie.Need-is-npy-requires
 is-npy-requires c κs = search needs
@@ -44,7 +37,7 @@ returns-3 c =
     let a = c .before .before .before .before .before .before .before .before .before .before .args in
     let d = c .before .before .before .dims-of .ensures in
     let npy = sym (c .before .before .before .before .before .before .before .is-npy .ensures) ∙ not-false _ (c .before .before .before .before .before .before .if1 .left) in
-    passing (a .dims .now) (dims-passed (a .file .now) (length (a .dims .now)) npy (c .before .before .before .before .before .if2 .left)) (c .before .before .put-dims .ensures ∙ (λ i. getD (d i) 0 0 ∷ getD (d i) 1 0 ∷ getD (d i) 2 0 ∷ []) ∙ are-three (a .file .now))
+    passing (a .dims .now) (dims-passed (a .file .now) (length (a .dims .now)) npy (c .before .before .before .before .before .if2 .left)) (c .before .before .put-dims .ensures ∙ (λ i. getD (d i) 0 0 ∷ getD (d i) 1 0 ∷ getD (d i) 2 0 ∷ []) ∙ three-dims (a .file .now))
 
 pub dims-spec : {M : Type 1} → statement M
 dims-spec =

@@ -2,7 +2,7 @@
 use borrow.Author.Needs.{needs}
 use native.Mathlib.Omega.{arith}
 use lib.Dec.{lit<}
-use Rattle.words.proofs.Numbers.{Below}
+use Rattle.words.specs.Words.{Below}
 use Rattle.words.proofs.Shifts.{joined-first, joined}
 use Rattle.words.proofs.word_at.Statement.{statement}
 use Rattle.words.proofs.word_at.Tie as tie
