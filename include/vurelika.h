@@ -40,10 +40,11 @@ enum {
 };
 
 /* What a function returns: 0, or the first of these that applies, in the order in which they stand.
- * VURELIKA_MODE comes before the nine refusals and is none of them: no request could be formed. */
+ * VURELIKA_MODE comes before the refusals and is none of them: no request could be formed. */
 enum {
     VURELIKA_DONE = 0,
     VURELIKA_MODE = 255,        /* the mode is none of the five */
+    VURELIKA_NOT_NPY = 10,      /* the bytes are no .npy file that vurelika_npy_read takes */
     VURELIKA_ORDER = 1,         /* the order is above 5; for vurelika_spline_filter also 0 or 1 */
     VURELIKA_AXIS = 2,          /* vurelika_spline_filter1d: the axis is above 2 */
     VURELIKA_LENGTH = 3,        /* an input axis is shorter than 2 or longer than 4,096 */
@@ -121,6 +122,32 @@ size_t vurelika_zoom_length(size_t length, double factor);
  * takes: for 4,096 by 4,096 by 4,096 voxels with prefilter 2^36, where a call gives VURELIKA_COUNT. */
 size_t vurelika_work_count(size_t d0, size_t d1, size_t d2, size_t order, uint32_t prefilter,
                            uint32_t mode);
+
+/* Files of NumPy: .npy of version 1.0 that hold little-endian f64 ('<f8') in C order on three axes. A file
+ * is a buffer of bytes; opening, reading and writing it is the caller's.
+ *
+ * What is taken numpy.load takes too, with the same lengths and bits: the keys of the header in any order,
+ * each once, either quotes, spaces, tabs and newlines between its signs, with the last comma or without; as
+ * with numpy.load, at most 10,000 bytes of it, and lengths whose product, zeros left out, is below 2^60. Any
+ * other file, data bytes missing or left over included, is VURELIKA_NOT_NPY. Voxels are moved, not looked
+ * at: a NaN keeps its bits, and meets VURELIKA_VALUE where it is resampled.
+ *
+ * dims has exactly 3 places and takes the lengths of the file's axes, whether or not vurelika_npy_read
+ * would take them. Refusals: VURELIKA_NOT_NPY, VURELIKA_BUFFER; dims then holds what it held. */
+uint32_t vurelika_npy_dims(const uint8_t *bytes, size_t bytes_len, size_t *dims, size_t dims_len);
+
+/* The voxels of a file. volume has exactly as many places as the file has voxels. Refusals:
+ * VURELIKA_NOT_NPY, VURELIKA_LENGTH, VURELIKA_COUNT, VURELIKA_BUFFER; volume then holds what it held. */
+uint32_t vurelika_npy_read(const uint8_t *bytes, size_t bytes_len, double *volume, size_t volume_len);
+
+/* How many bytes the file of a volume of d0 by d1 by d2 voxels has: a header of 128, and 8 for each voxel.
+ * 0 where vurelika_npy_write refuses the lengths (VURELIKA_LENGTH, VURELIKA_COUNT). */
+size_t vurelika_npy_size(size_t d0, size_t d1, size_t d2);
+
+/* Writes the file of a volume. volume has d0 * d1 * d2 places, bytes exactly vurelika_npy_size of them.
+ * Refusals: VURELIKA_LENGTH, VURELIKA_COUNT, VURELIKA_BUFFER; bytes then holds what it held. */
+uint32_t vurelika_npy_write(size_t d0, size_t d1, size_t d2, const double *volume, size_t volume_len,
+                            uint8_t *bytes, size_t bytes_len);
 
 #ifdef __cplusplus
 }

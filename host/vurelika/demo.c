@@ -5,20 +5,17 @@
 #include <string.h>
 
 #include "common/refusal.h"
+#include "common/resampler.h"
 #include "vurelika.h"
 
 enum { PLANES = 2, ROWS = 2, LENGTH = 4, VOXELS = PLANES * ROWS * LENGTH };
 enum { LONGEST = 7, ROOM = PLANES * ROWS * LONGEST }; /* the longest lane that comes out: zoom's */
 enum { WIDTH = LONGEST * 25 + 1 }; /* such a lane in print: a number takes at most 24 signs and a space */
 
-typedef uint32_t entry(size_t, size_t, size_t, double, double, double, size_t, uint32_t, uint32_t,
-                       double, const double *, size_t, double *, size_t, uint8_t *, size_t, double *,
-                       size_t, uint64_t *, size_t);
-
 /* A request as the document names it. */
 struct request {
     const char *name;
-    entry *resample;
+    resampler *resample;
     double factors[3];
     size_t order;
     uint32_t mode;

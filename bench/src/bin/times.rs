@@ -3,7 +3,7 @@
 
 use std::time::{Duration, Instant};
 
-use bench::{voxels_of, Call, Entry, Lent, SciPy};
+use bench::{timed, voxels_of, Call, Entry, Lent, SciPy};
 use ndarray_ndimage::BorderMode::{self, Mirror, Nearest, Reflect};
 
 /// All calls are made again after some minutes, so that a machine that is slow for a while does not
@@ -181,12 +181,6 @@ impl Timed {
         }
         self.turns += turns;
     }
-}
-
-fn timed<T>(task: impl FnOnce() -> T) -> (Duration, T) {
-    let began = Instant::now();
-    let result = task();
-    (began.elapsed(), result)
 }
 
 fn bits(values: &[f64]) -> impl Iterator<Item = u64> + '_ {

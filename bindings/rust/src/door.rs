@@ -128,6 +128,52 @@ pub(crate) fn work_count(request: &Request) -> usize {
     unsafe { c::vurelika_work_count(d0, d1, d2, request.order, request.prefilter.into(), mode) }
 }
 
+pub(crate) fn npy_dims(bytes: &[u8]) -> Result<[usize; 3], Refusal> {
+    let mut dims = [0; 3];
+    // SAFETY: as in `Entry::call`.
+    let status =
+        unsafe { c::vurelika_npy_dims(bytes.as_ptr(), bytes.len(), dims.as_mut_ptr(), dims.len()) };
+    Refusal::check(status)?;
+    Ok(dims)
+}
+
+pub(crate) fn npy_read(bytes: &[u8], volume: &mut [f64]) -> Result<(), Refusal> {
+    // SAFETY: as in `Entry::call`.
+    Refusal::check(unsafe {
+        c::vurelika_npy_read(
+            bytes.as_ptr(),
+            bytes.len(),
+            volume.as_mut_ptr(),
+            volume.len(),
+        )
+    })
+}
+
+/// The bytes of a volume's file; 0 where `npy_write` refuses the lengths.
+pub(crate) fn npy_size([d0, d1, d2]: [usize; 3]) -> usize {
+    // SAFETY: the function takes numbers alone.
+    unsafe { c::vurelika_npy_size(d0, d1, d2) }
+}
+
+pub(crate) fn npy_write(
+    [d0, d1, d2]: [usize; 3],
+    volume: &[f64],
+    bytes: &mut [u8],
+) -> Result<(), Refusal> {
+    // SAFETY: as in `Entry::call`.
+    Refusal::check(unsafe {
+        c::vurelika_npy_write(
+            d0,
+            d1,
+            d2,
+            volume.as_ptr(),
+            volume.len(),
+            bytes.as_mut_ptr(),
+            bytes.len(),
+        )
+    })
+}
+
 /// The number of a mode, and a fill, which is read in Constant alone.
 fn mode_and_fill(mode: BorderMode) -> (u32, f64) {
     match mode {

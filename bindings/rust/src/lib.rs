@@ -1,9 +1,9 @@
 //! Resampling of volumes of `f64` on three axes, in which each output voxel is marked as computed or
 //! filled: a safe layer over the proved library `libvurelika.a`.
 //!
-//! A volume is a flat slice, last index fastest. A call ends in success or in one of nine
-//! [refusals](Refusal), whatever numbers and slices it is given; it does not panic. It takes at most
-//! about 405 kB of stack. As all of Rust it counts on the default floating-point environment: numbers are
+//! A volume is a flat slice, last index fastest; [`npy`] reads and writes it as NumPy's files have it. A
+//! call ends in success or in a [refusal](Refusal), whatever numbers and slices it is given; it does not
+//! panic. It takes at most about 405 kB of stack. As all of Rust it counts on the default floating-point environment: numbers are
 //! rounded to nearest, subnormal numbers are kept. C code in the same program may have changed it, by
 //! `fesetround` or by being linked with `-ffast-math`; values, codes and counts may then be other ones.
 //!
@@ -31,6 +31,7 @@
 //! ```
 
 mod door;
+pub mod npy;
 mod refusal;
 
 use door::Entry;
@@ -115,10 +116,7 @@ impl Request {
     fn sizes(&self, entry: Entry) -> Result<Sizes, Refusal> {
         // A call that is lent nothing is refused, at the latest for its buffers. Past that the counts
         // are known to be small.
-        match entry.call(self, &[], &mut [], &mut [], &mut []) {
-            Err(refusal) if refusal != Refusal::Buffer => return Err(refusal),
-            _ => (),
-        }
+        Refusal::before_buffers(entry.call(self, &[], &mut [], &mut [], &mut []))?;
         let dims = match entry {
             Entry::Shift => self.dims,
             Entry::Zoom => door::zoom_dims(self),
@@ -154,6 +152,15 @@ pub struct Counts {
     pub filled: u64,
     /// Voxels with the code [`DEFAULTED`].
     pub defaulted: u64,
+}
+
+/// A volume as a file holds it.
+#[derive(Clone, Debug, PartialEq)]
+pub struct Volume {
+    /// The lengths of its axes.
+    pub dims: [usize; 3],
+    /// Its voxels, last index fastest.
+    pub voxels: Vec<f64>,
 }
 
 /// A volume that came out.

@@ -1,4 +1,4 @@
-//! The nine ways to say no.
+//! The ways to say no.
 
 use std::{error::Error, fmt};
 
@@ -8,6 +8,8 @@ use std::{error::Error, fmt};
 #[derive(Clone, Copy, Debug, PartialEq, Eq, Hash)]
 #[repr(u32)]
 pub enum Refusal {
+    /// The bytes are no file that [`npy::read`](crate::npy::read) takes.
+    NotNpy = 10,
     /// The order is above 5; for `spline_filter` also 0 or 1.
     Order = 1,
     /// `spline_filter1d` was given an axis above 2.
@@ -30,8 +32,9 @@ pub enum Refusal {
 }
 
 impl Refusal {
-    /// All nine, in the order in which they are looked for.
-    pub const ALL: [Refusal; 9] = [
+    /// All of them, in the order in which they are looked for.
+    pub const ALL: [Refusal; 10] = [
+        Refusal::NotNpy,
         Refusal::Order,
         Refusal::Axis,
         Refusal::Length,
@@ -43,7 +46,7 @@ impl Refusal {
         Refusal::Beside,
     ];
 
-    /// The refusal's number, 1 to 9.
+    /// The refusal's number, as document 01 and its change requests count them.
     ///
     /// ```
     /// assert_eq!(vurelika::Refusal::Beside.number(), 9);
@@ -60,7 +63,15 @@ impl Refusal {
             n => Err(Refusal::ALL
                 .into_iter()
                 .find(|refusal| refusal.number() == n)
-                .expect("one of the nine refusals")),
+                .expect("a refusal's number")),
+        }
+    }
+
+    /// The refusal of a call that was lent nothing, if it would be the same whatever were lent.
+    pub(crate) fn before_buffers<T>(answer: Result<T, Refusal>) -> Result<(), Refusal> {
+        match answer {
+            Err(refusal) if refusal != Refusal::Buffer => Err(refusal),
+            _ => Ok(()),
         }
     }
 }
@@ -68,6 +79,9 @@ impl Refusal {
 impl fmt::Display for Refusal {
     fn fmt(&self, f: &mut fmt::Formatter<'_>) -> fmt::Result {
         let why = match self {
+            Refusal::NotNpy => {
+                "the bytes are no whole .npy file of version 1.0, '<f8', C order and three axes"
+            }
             Refusal::Order => "the order is not one that this function has",
             Refusal::Axis => "the axis number is above 2",
             Refusal::Length => "an input axis is shorter than 2 or longer than 4,096",

@@ -220,10 +220,9 @@ fn work() -> Result<(), Refusal> {
 
 #[test]
 fn refusals_are_errors_in_words() {
-    for (i, refusal) in Refusal::ALL.into_iter().enumerate() {
+    for refusal in Refusal::ALL {
         let error: Box<dyn std::error::Error> = refusal.into();
-        assert!(error
-            .to_string()
-            .starts_with(&format!("refusal {}: ", i + 1)));
+        let number = format!("refusal {}: ", refusal.number());
+        assert!(error.to_string().starts_with(&number));
     }
 }

@@ -12,7 +12,7 @@ use borrow.Author.Tests.{eqb-true, eqb-false, eq-eqb, ne-eqb, ltb-true, ltb-fals
 use Rattle.request.specs.declared.Axes.{Axes}
 use Rattle.request.specs.declared.Request.{Request}
 use Rattle.refusal.specs.declared.Refusal.{Refusal}
-use Rattle.refusal.specs.declared.Refusal.the-variants.{Order, AxisNumber, Length, Factor, OutputLength, Count, Buffer, Value, Beside}
+use Rattle.refusal.specs.declared.Refusal.the-variants.{NotNpy, Order, AxisNumber, Length, Factor, OutputLength, Count, Buffer, Value, Beside}
 use Rattle.refusal.specs.declared.Verdict.{Verdict}
 use Rattle.refusal.specs.declared.Verdict.the-variants.{Passed, Refused}
 use Rattle.refusal.specs.Refusals.{Check, first, numberOf, numberBy}
@@ -20,9 +20,9 @@ use Rattle.resample.specs.Call.{callBy, numberIn, filterCallBy, shiftCall, zoom
 use Rattle.promises.specs.Entries.{Entry, shifting, zooming, Filter, whole, along, call, checks, axesOf, filterCall, filterChecks}
 use Rattle.promises.specs.Given.{holds, FirstToHold}
 
--- ---- checks in the order of their numbers, all above k
-abbrev Rising : ℕ → List Check → Type 0
-Rising k [] = Unit
+-- ---- checks in the order of their numbers, all above k and none above 9
+abbrev pub Rising : ℕ → List Check → Type 0
+Rising k [] = k ≤ 9
 Rising k (c ∷ cs) = (k < numberOf (c .says)) × Rising (numberOf (c .says)) cs
 
 either : (b : Bool) {A : Type 0} → (b ≡ true → A) → (b ≡ false → A) → A
@@ -42,6 +42,7 @@ below (c ∷ cs) k m u h = another's c cs m (λ e. omega (arith, u .0, h, e)) �
 
 -- ---- the numbers
 pub some-number : (why : Refusal) → numberOf why ≡ 0 → ⊥
+some-number NotNpy e = omega (arith, e)
 some-number Order e = omega (arith, e)
 some-number AxisNumber e = omega (arith, e)
 some-number Length e = omega (arith, e)
@@ -52,20 +53,17 @@ some-number Buffer e = omega (arith, e)
 some-number Value e = omega (arith, e)
 some-number Beside e = omega (arith, e)
 
-one-of-nine : (v : Verdict) → numberBy v ≤ 9
-one-of-nine Passed = lit≤ tt
-one-of-nine (Refused why) = go why
+most : (l : List Check) (k : ℕ) → Rising k l → k ≤ 9
+most [] k u = u
+most (c ∷ cs) k u = omega (arith, u .0, most cs (numberOf (c .says)) (u .1))
+
+one-of-nine : (l : List Check) (k : ℕ) → Rising k l → numberBy (first l) ≤ 9
+one-of-nine [] k u = lit≤ tt
+one-of-nine (c ∷ cs) k u = go (c .applies) (one-of-nine cs (numberOf (c .says)) (u .1))
   where
-    go : (why : Refusal) → numberOf why ≤ 9
-    go Order = lit≤ tt
-    go AxisNumber = lit≤ tt
-    go Length = lit≤ tt
-    go Factor = lit≤ tt
-    go OutputLength = lit≤ tt
-    go Count = lit≤ tt
-    go Buffer = lit≤ tt
-    go Value = lit≤ tt
-    go Beside = lit≤ tt
+    go : (b : Bool) → numberBy (first cs) ≤ 9 → numberBy (cond b (Refused (c .says)) (first cs)) ≤ 9
+    go true h = most cs (numberOf (c .says)) (u .1)
+    go false h = h
 
 -- ---- the law of every such list, one check more
 module _ (c : Check) (cs : List Check) (n : ℕ) (u : Rising (numberOf (c .says)) cs) where
@@ -116,14 +114,14 @@ nothing-found (c ∷ cs) k u h =
 
 -- ---- of a number that the list decides
 module _ (l : List Check) (u : Rising 0 l) {number : ℕ} (e : number ≡ numberBy (first l)) where
-  exactly : (n : ℕ) → 1 ≤ n → (number ≡ n) ↔ FirstToHold l n
+  pub exactly : (n : ℕ) → 1 ≤ n → (number ≡ n) ↔ FirstToHold l n
   exactly n p = (λ q. given l 0 n u p (sym e ∙ q), λ h. e ∙ only-then l 0 n u h)
 
-  success : (number ≡ 0) ↔ ((n : ℕ) → holds l n ≡ false)
+  pub success : (number ≡ 0) ↔ ((n : ℕ) → holds l n ≡ false)
   success = (λ q. nothing-holds l (sym e ∙ q), λ h. e ∙ nothing-found l 0 u h)
 
-  at-most-nine : number ≤ 9
-  at-most-nine = subst (λ (n : ℕ). n ≤ 9) (sym e) (one-of-nine (first l))
+  pub at-most-nine : number ≤ 9
+  at-most-nine = subst (λ (n : ℕ). n ≤ 9) (sym e) (one-of-nine l 0 u)
 
 -- ---- `shift` and `zoom`
 module _ (e : Entry) (r : Request) (input output : List Float) (coverage : List ℕ) (work : List Float) where
@@ -135,8 +133,8 @@ module _ (e : Entry) (r : Request) (input output : List Float) (coverage : List 
 
   rising : Rising 0 tests
   rising = elim e [
-    | shifting ↦ (lit≤ tt, (lit≤ tt, (lit≤ tt, (lit≤ tt, (lit≤ tt, (lit≤ tt, (lit≤ tt, tt)))))))
-    | zooming ↦ (lit≤ tt, (lit≤ tt, (lit≤ tt, (lit≤ tt, (lit≤ tt, (lit≤ tt, (lit≤ tt, (lit≤ tt, tt))))))))
+    | shifting ↦ (lit≤ tt, (lit≤ tt, (lit≤ tt, (lit≤ tt, (lit≤ tt, (lit≤ tt, (lit≤ tt, lit≤ tt)))))))
+    | zooming ↦ (lit≤ tt, (lit≤ tt, (lit≤ tt, (lit≤ tt, (lit≤ tt, (lit≤ tt, (lit≤ tt, (lit≤ tt, lit≤ tt))))))))
   ]
 
   pub numbered : number ≡ numberBy (first tests)
@@ -169,8 +167,8 @@ module _ (f : Filter) (r : Request) (input output : List Float) where
 
   filter-rising : Rising 0 filterTests
   filter-rising = elim f [
-    | whole ↦ (lit≤ tt, (lit≤ tt, (lit≤ tt, (lit≤ tt, (lit≤ tt, tt)))))
-    | along axis ↦ (lit≤ tt, (lit≤ tt, (lit≤ tt, (lit≤ tt, (lit≤ tt, (lit≤ tt, tt))))))
+    | whole ↦ (lit≤ tt, (lit≤ tt, (lit≤ tt, (lit≤ tt, (lit≤ tt, lit≤ tt)))))
+    | along axis ↦ (lit≤ tt, (lit≤ tt, (lit≤ tt, (lit≤ tt, (lit≤ tt, (lit≤ tt, lit≤ tt))))))
   ]
 
   filter-numbered : filterNumber ≡ numberBy (first filterTests)

@@ -1,4 +1,4 @@
--- The promises: of every call, of zoom, and demand 3.
+-- The promises: of every call, of zoom, demand 3, and from file to file.
 pub mod Identical
 pub mod Powers
 pub mod Given
@@ -26,3 +26,7 @@ pub mod Bits
 pub mod Still
 pub mod Tallies
 pub mod Staying
+pub mod Files
+pub mod FileToFile
+pub mod FileBits
+pub mod FileShift

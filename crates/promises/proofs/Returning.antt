@@ -38,7 +38,7 @@ beyond n i z = subst (Outside n) (sym (back-is i z))
 
 module _ (d : List ℕ) (s : ℕ → ℤ) (fill : Float) {before between after : List Float} {codes codes' : List ℕ} where
   -- of any two volumes so moved
-  returns : Moved d s fill before between codes → Moved d (λ i. negℤ (s i)) fill between after codes' → Returned d s fill before after
+  pub returns : Moved d s fill before between codes → Moved d (λ i. negℤ (s i)) fill between after codes' → Returned d s fill before after
   returns there back = record {
     stayed = λ i j k x y z h to ex ey ez.
         same-trans (voxel d after i j k) (voxel d between x y z) (voxel d before i j k)

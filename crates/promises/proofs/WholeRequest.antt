@@ -54,7 +54,7 @@ abbrev pub point : Request → ℕ → ℕ → Point
 point r c i = pointAt (r .order) (r .mode) (axis r c) i
 
 -- ---- an input that refusal 8 lets pass
-not-wild : (input : List Float) → someWild input ≡ false → Finite input
+pub not-wild : (input : List Float) → someWild input ≡ false → Finite input
 unfolding someWild ofInt neg
 not-wild input e m l =
     let v = getD input m nan in

@@ -7,3 +7,5 @@ pub mod Work
 pub mod Marks
 pub mod Moves
 pub mod Stays
+pub mod Filings
+pub mod Files

@@ -1,2 +1,2 @@
--- Which of the nine refusals a call meets.
+-- Which refusal a call meets.
 pub mod Refusals

@@ -11,12 +11,13 @@ use Rattle.request.specs.declared.Request.{Request}
 use Rattle.request.specs.Sizes.{needed, zoomDims, shiftAxes, zoomAxes}
 use Rattle.request.specs.Conditions.{badOrder, badFilterOrder, badAxisNumber, badLengths, badShift, badZoom, badFactors, tooLarge, wrong, tooShort, wildFill, someWild, besideAny}
 use Rattle.refusal.specs.declared.Refusal.{Refusal}
-use Rattle.refusal.specs.declared.Refusal.the-variants.{Order, AxisNumber, Length, Factor, OutputLength, Count, Buffer, Value, Beside}
+use Rattle.refusal.specs.declared.Refusal.the-variants.{NotNpy, Order, AxisNumber, Length, Factor, OutputLength, Count, Buffer, Value, Beside}
 use Rattle.refusal.specs.declared.Verdict.{Verdict}
 use Rattle.refusal.specs.declared.Verdict.the-variants.{Passed, Refused}
 
--- document 01's numbers
+-- document 01's numbers, and document 02's
 abbrev pub numberOf : Refusal → ℕ
+numberOf NotNpy = 10
 numberOf Order = 1
 numberOf AxisNumber = 2
 numberOf Length = 3

@@ -1,11 +1,12 @@
-// The nine refusals, their numbers, and which of them a call meets.
+// The refusals, their numbers, and which of them a call meets.
 ghost use mathlib.Core.Path.{_≡_};
 ghost use Rattle.refusal.specs.Refusals.{numberOf, numberBy};
 
 pub mod verdicts;
 
-// Document 01's numbers, in its order: 1 to 9.
+// Document 01's nine in its order, 1 to 9, after those of document 02 that come before them: 10.
 pub enum Refusal {
+    NotNpy,
     Order,
     AxisNumber,
     Length,
@@ -26,6 +27,7 @@ pub fn number_of(why: Refusal) -> u32
     ensures { λ r. ⌜ r ≡ numberOf why ⌝ }
 {
     match why {
+        Refusal::NotNpy => 10,
         Refusal::Order => 1,
         Refusal::AxisNumber => 2,
         Refusal::Length => 3,

@@ -12,8 +12,9 @@ use Rattle.resample.specs.declared.Answer.{Answer}
 use Rattle.resample.specs.declared.Answer.the-variants as answer
 use Rattle.resample.specs.Call.{Call, FilterCall, callOf, numberIn, countsIn, filterCallOf}
 use Rattle.refusal.specs.Refusals.{numberBy}
+use Rattle.npy.specs.Call.{NpyCall, npyCallOf}
 use Rattle.numbers.specs.Numbers.{isMode, places, tally, cleared}
-use Rattle.vurelika.specs.Door.{unknownMode, Entry, doorOf, answered, doorBy, filterDoorOf, filterDoorBy}
+use Rattle.vurelika.specs.Door.{unknownMode, Entry, doorOf, answered, doorBy, filterDoorOf, filterDoorBy, npyDoorOf, npyDoor}
 use Rattle.vurelika.proofs.Empty.{EmptyRefused}
 
 -- ---- shift and zoom
@@ -59,3 +60,7 @@ module _ (entry : Request → FilterCall) (mode : ℕ) (r : Request) (output : L
 pub filter-unknown : (mode : ℕ) (call : FilterCall) (output : List Float) → isMode mode ≡ false → filterDoorOf unknownMode output ≡ filterDoorBy mode call output
 unfolding filterDoorBy
 filter-unknown mode call output none = simp none
+
+-- a verdict and a buffer that are a call's, and the verdict's number
+pub npy-answered : {v : Verdict} {buffer : List ℕ} {call : NpyCall} {status : ℕ} → npyCallOf v buffer ≡ call → status ≡ numberBy v → npyDoorOf status buffer ≡ npyDoor call
+npy-answered {buffer = buffer} e n = ap (λ (k : ℕ). npyDoorOf k buffer) n ∙ ap npyDoor e

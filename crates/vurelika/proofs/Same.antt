@@ -4,8 +4,9 @@ use mathlib.Core.Path.{_≡_, sym, ap, _∙_}
 use mathlib.Core.List.{List}
 use lib.Ieee.{Float}
 use Rattle.resample.specs.Call.{shiftCall, zoomCall, splineFilterCall, splineFilter1dCall}
+use Rattle.npy.specs.Call.{dimsCall, readCall, sizeCall, writeCall}
 use Rattle.numbers.specs.Numbers.{requestOf, plainRequestOf}
-use Rattle.vurelika.specs.Door.{Door, doorBy, FilterDoor, filterDoorBy, zoomLength, workCount}
+use Rattle.vurelika.specs.Door.{Door, doorBy, FilterDoor, filterDoorBy, NpyDoor, npyDoor, zoomLength, workCount}
 
 -- a contract says that the outcome is what a definition says: that allows one only
 same : {A : Type 0} {x y means : A} → x ≡ means → y ≡ means → x ≡ y
@@ -35,7 +36,14 @@ pub record SameFilterDoor (x y : FilterDoor) : Type 0 where
 same-filter-door : {x y : FilterDoor} → x ≡ y → SameFilterDoor x y
 same-filter-door e = record { status = ap (λ (d : FilterDoor). d .status) e; output = ap (λ (d : FilterDoor). d .output) e }
 
--- ---- the six functions
+pub record SameNpyDoor (x y : NpyDoor) : Type 0 where
+  pub status : x .status ≡ y .status
+  pub buffer : x .buffer ≡ y .buffer
+
+same-npy-door : {x y : NpyDoor} → x ≡ y → SameNpyDoor x y
+same-npy-door e = record { status = ap (λ (d : NpyDoor). d .status) e; buffer = ap (λ (d : NpyDoor). d .buffer) e }
+
+-- ---- the ten functions
 module _ (d0 d1 d2 : ℕ) (f0 f1 f2 : Float) (order prefilter mode : ℕ) (fill : Float) (input output : List Float) (coverage : List ℕ) (work : List Float) (counts : List ℕ) {x y : Door} where
   pub same-shift :
       x ≡ doorBy shiftCall mode (requestOf d0 d1 d2 f0 f1 f2 order prefilter mode fill) input output coverage work counts →
@@ -67,3 +75,16 @@ same-zoom-length length factor p q = same p q
 
 pub same-work-count : (d0 d1 d2 order prefilter mode : ℕ) {n m : ℕ} → n ≡ workCount d0 d1 d2 order prefilter mode → m ≡ workCount d0 d1 d2 order prefilter mode → n ≡ m
 same-work-count d0 d1 d2 order prefilter mode p q = same p q
+
+module _ {x y : NpyDoor} where
+  pub same-npy-dims : (file dims : List ℕ) → x ≡ npyDoor (dimsCall file dims) → y ≡ npyDoor (dimsCall file dims) → SameNpyDoor x y
+  same-npy-dims file dims p q = same-npy-door (same p q)
+
+  pub same-npy-read : (file volume : List ℕ) → x ≡ npyDoor (readCall file volume) → y ≡ npyDoor (readCall file volume) → SameNpyDoor x y
+  same-npy-read file volume p q = same-npy-door (same p q)
+
+  pub same-npy-write : (d volume bytes : List ℕ) → x ≡ npyDoor (writeCall d volume bytes) → y ≡ npyDoor (writeCall d volume bytes) → SameNpyDoor x y
+  same-npy-write d volume bytes p q = same-npy-door (same p q)
+
+pub same-npy-size : (d : List ℕ) {n m : ℕ} → n ≡ sizeCall d → m ≡ sizeCall d → n ≡ m
+same-npy-size d p q = same p q

@@ -12,6 +12,7 @@ use Rattle.request.specs.Sizes.{needed}
 use Rattle.request.specs.Conditions.{badOrder, badLength, badLengths, badZoom}
 use Rattle.refusal.specs.Refusals.{numberBy}
 use Rattle.numbers.specs.Numbers.{isMode, plainRequestOf, places, tally, cleared}
+use Rattle.npy.specs.Call.{NpyCall}
 use Rattle.resample.specs.Call.{Call, FilterCall, numberIn, countsIn}
 
 -- what a mode that has no number is answered
@@ -56,6 +57,17 @@ filterDoorOf status output = record { status = status; output = output }
 
 unfoldable pub filterDoorBy : ℕ → FilterCall → List Float → FilterDoor
 filterDoorBy mode call output = cond (isMode mode) (filterDoorOf (numberBy (call .answer)) (call .output)) (filterDoorOf unknownMode output)
+
+-- ---- the functions of .npy: the buffer that is written is dims, volume or bytes
+pub record NpyDoor : Type 0 where
+  pub status : ℕ
+  pub buffer : List ℕ
+
+abbrev pub npyDoorOf : ℕ → List ℕ → NpyDoor
+npyDoorOf status buffer = record { status = status; buffer = buffer }
+
+abbrev pub npyDoor : NpyCall → NpyDoor
+npyDoor call = npyDoorOf (numberBy (call .answer)) (call .buffer)
 
 -- ---- how much a caller lends
 -- "0 where refusals 3 to 5 would answer"

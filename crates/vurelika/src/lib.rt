@@ -1,9 +1,11 @@
-// The door for C: the four entries, and the lengths of what their caller lends. A slice is a pointer, then a length.
+// The door for C: the four entries, the files of NumPy, and the lengths of what a caller lends. A slice is a pointer, then a length.
 // No caller has checked anything.
 ghost use mathlib.Core.Path.{_≡_};
+ghost use mathlib.Core.List.{[], _∷_};
 ghost use Rattle.resample.specs.Call.{shiftCall, zoomCall, splineFilterCall, splineFilter1dCall};
+ghost use Rattle.npy.specs.Call.{dimsCall, readCall, sizeCall, writeCall};
 ghost use Rattle.numbers.specs.Numbers.{requestOf, plainRequestOf};
-ghost use Rattle.vurelika.specs.Door.{doorOf, doorBy, filterDoorOf, filterDoorBy, zoomLength, workCount};
+ghost use Rattle.vurelika.specs.Door.{doorOf, doorBy, filterDoorOf, filterDoorBy, npyDoorOf, npyDoor, zoomLength, workCount};
 use axis::coordinate::output_length;
 use numbers::reports::PLACES;
 use numbers::reports::clear;
@@ -134,6 +136,41 @@ pub extern "C" fn vurelika_spline_filter1d(
     } else {
         UNKNOWN_MODE
     }
+}
+
+// A volume is lent as the voxels' bits, which is what its f64 are in memory.
+#[no_mangle]
+pub extern "C" fn vurelika_npy_dims(bytes: &[u8], dims: &mut [usize]) -> u32
+    ensures { λ status. ⌜ npyDoorOf status (now (dims .exit)) ≡ npyDoor (dimsCall (now (bytes .entry)) (now (dims .entry))) ⌝ }
+{
+    number_by(npy::dims(bytes, dims))
+}
+
+#[no_mangle]
+pub extern "C" fn vurelika_npy_read(bytes: &[u8], volume: &mut [u64]) -> u32
+    ensures { λ status. ⌜ npyDoorOf status (now (volume .exit)) ≡ npyDoor (readCall (now (bytes .entry)) (now (volume .entry))) ⌝ }
+{
+    number_by(npy::read(bytes, volume))
+}
+
+#[no_mangle]
+pub extern "C" fn vurelika_npy_size(d0: usize, d1: usize, d2: usize) -> usize
+    ensures { λ n. ⌜ n ≡ sizeCall (d0 ∷ d1 ∷ d2 ∷ []) ⌝ }
+{
+    npy::size([d0, d1, d2])
+}
+
+#[no_mangle]
+pub extern "C" fn vurelika_npy_write(
+    d0: usize,
+    d1: usize,
+    d2: usize,
+    volume: &[u64],
+    bytes: &mut [u8],
+) -> u32
+    ensures { λ status. ⌜ npyDoorOf status (now (bytes .exit)) ≡ npyDoor (writeCall (d0 ∷ d1 ∷ d2 ∷ []) (now (volume .entry)) (now (bytes .entry))) ⌝ }
+{
+    number_by(npy::write([d0, d1, d2], volume, bytes))
 }
 
 // Zoom's output length; 0 where refusals 3 to 5 would answer.

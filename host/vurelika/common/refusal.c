@@ -7,6 +7,8 @@ const char *refusal_meaning(uint32_t number)
     switch (number) {
     case VURELIKA_DONE:
         return "done";
+    case VURELIKA_NOT_NPY:
+        return "the bytes are no whole .npy file of version 1.0, '<f8', C order and three axes";
     case VURELIKA_ORDER:
         return "the order is not one that this function has";
     case VURELIKA_AXIS:

@@ -34,4 +34,15 @@ extern "C" {
     pub fn vurelika_work_count(
         d0: usize, d1: usize, d2: usize, order: usize, prefilter: u32, mode: u32,
     ) -> usize;
+    pub fn vurelika_npy_dims(
+        bytes: *const u8, bytes_len: usize, dims: *mut usize, dims_len: usize,
+    ) -> u32;
+    pub fn vurelika_npy_read(
+        bytes: *const u8, bytes_len: usize, volume: *mut f64, volume_len: usize,
+    ) -> u32;
+    pub fn vurelika_npy_size(d0: usize, d1: usize, d2: usize) -> usize;
+    pub fn vurelika_npy_write(
+        d0: usize, d1: usize, d2: usize,
+        volume: *const f64, volume_len: usize, bytes: *mut u8, bytes_len: usize,
+    ) -> u32;
 }

@@ -1,0 +1,2 @@
+-- The laws of a text.
+pub mod Texts

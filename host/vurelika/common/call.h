@@ -1,0 +1,31 @@
+/* A request, put to the library. */
+#ifndef VURELIKA_CALL_H
+#define VURELIKA_CALL_H
+
+#include "request.h"
+
+/* What is lent to a call; all empty, the answer is one of the refusals 1 to 6, or VURELIKA_BUFFER. */
+struct lent {
+    const double *input;
+    size_t input_len;
+    double *output;
+    uint8_t *coverage;
+    size_t output_len; /* of both */
+    double *work;
+    size_t work_len;
+    uint64_t counts[3];
+};
+
+/* The library's answer for a volume of these lengths. */
+uint32_t call(const struct request *r, const size_t lengths[3], struct lent *lent);
+
+/* The lengths of the volume that comes out; a 0 where an axis is refused. */
+void output_lengths(const struct request *r, const size_t lengths[3], size_t out[3]);
+
+/* The places of work that the request needs. */
+size_t work_of(const struct request *r, const size_t lengths[3]);
+
+/* The first axis that meets the refusal by itself. The refusal must be one that an axis meets: 4, 5 or 9. */
+size_t refused_axis(const struct request *r, const size_t lengths[3], uint32_t refusal);
+
+#endif

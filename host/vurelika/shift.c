@@ -1,0 +1,34 @@
+/* Shifts the volume of a .npy file, and marks each voxel that comes out.
+ * usage: vurelika shift IN.npy OUT.npy --shift X,Y,Z --order N --mode NAME [--fill F] [--no-prefilter]
+ *     [--coverage CODES.npy] [--dry-run] [--force]
+ *
+ * --shift X,Y,Z          voxels along each axis: what comes out at index i is the input at i - shift
+ * --order N              0 copies the nearest voxel, 1 to 5 are splines
+ * --mode NAME            what stands outside: constant, mirror, nearest, reflect or wrap
+ * --fill F               in mode constant what is written outside; 0.0 unless given, as SciPy's cval
+ * --no-prefilter         orders 2 to 5 take the voxels as coefficients
+ * --coverage CODES.npy   writes the code of each voxel too, as bytes
+ * --dry-run              resamples in memory, and says what would be refused or written; writes nothing
+ * --force                replaces files that are there */
+#include "common/resampling.h"
+#include "vurelika.h"
+
+static size_t same_length(size_t length, double shift)
+{
+    (void)shift;
+    return length;
+}
+
+int main(int argc, char **argv)
+{
+    static const struct entry shift = {
+        .resample = vurelika_shift,
+        .length = same_length,
+        .still = 0.0,
+        .option = "--shift",
+        .factor = "shift",
+        .taken = "finite and of a size below 2^20",
+    };
+
+    return resample_file(&shift, argc, argv);
+}
