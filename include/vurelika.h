@@ -44,7 +44,8 @@ enum {
 enum {
     VURELIKA_DONE = 0,
     VURELIKA_MODE = 255,        /* the mode is none of the five */
-    VURELIKA_NOT_NPY = 10,      /* the bytes are no .npy file that vurelika_npy_read takes */
+    VURELIKA_NOT_NPY = 10,      /* the bytes are no whole .npy file of version 1.0, '<f8', C order and
+                                   three axes */
     VURELIKA_ORDER = 1,         /* the order is above 5; for vurelika_spline_filter also 0 or 1 */
     VURELIKA_AXIS = 2,          /* vurelika_spline_filter1d: the axis is above 2 */
     VURELIKA_LENGTH = 3,        /* an input axis is shorter than 2 or longer than 4,096 */

@@ -1,9 +1,10 @@
 //! NumPy's files: `.npy` of version 1.0 that hold little-endian `f64` (`'<f8'`) in C order on three axes.
 //!
-//! A file is a slice of bytes; opening, reading and writing it is the caller's. Taken is what
-//! `numpy.load` takes, with its lengths and its bits: the keys of the header in any order, each once,
-//! either quotes, spaces, tabs and newlines between its signs, with the last comma or without. Any other
-//! file is [`Refusal::NotNpy`], data bytes missing or left over included. What is written is what
+//! A file is a slice of bytes; opening, reading and writing it is the caller's. What is taken `numpy.load`
+//! takes too, with the same lengths and bits: the keys of the header in any order, each once, either
+//! quotes, spaces, tabs and newlines between its signs, with the last comma or without; as with
+//! `numpy.load`, at most 10,000 bytes of it, and lengths whose product, zeros left out, is below 2^60. Any
+//! other file is [`Refusal::NotNpy`], data bytes missing or left over included. What is written is what
 //! `numpy.save` writes.
 //!
 //! Voxels are moved, not looked at: a NaN keeps its bits, and meets [`Refusal::Value`] where it is

@@ -3,7 +3,7 @@ use Prim.Native.Nat.{ℕ, _+_, _*_, _-_, _≤_, _<_}
 use mathlib.Core.Path.{_≡_, refl, ap, sym, _∙_, subst}
 use mathlib.Core.Logic.{dite, ⊎-elim}
 use native.Mathlib.Decide.{decLt}
-use mathlib.Core.List.{List, _++_}
+use mathlib.Core.List.{List, [], _∷_, _++_}
 use native.Mathlib.Omega.{arith}
 use native.Mathlib.Nat.{add-mul, eq-or-lt-of-le, not-suc-le-zero, zero-mul, mul-le-mul-right}
 use borrow.Rule.Slice.PartMut.{same-len-mid, postOf}
@@ -36,6 +36,14 @@ splice f d xs ys zs a h p q m lt =
     let e : m ≡ length (take a xs) + (m - a) = omega arith in
     let e2 : a + (m - a) ≡ m = omega arith in
     ap (λ (j : ℕ). getD (take a xs ++ (ys ++ zs)) j d) e ∙ getD-append-add (take a xs) (ys ++ zs) (m - a) d ∙ List·getD-append ys zs d (m - a) (omega arith) ∙ q (m - a) (omega arith) ∙ ap f e2)
+
+-- three stores, into three places: what was in them is gone
+pub three-stored : {A : Type 0} (l : List A) {x y z : A} → length l ≡ 3 → set (set (set l 0 x) 1 y) 2 z ≡ x ∷ y ∷ z ∷ []
+three-stored [] e = absurd (omega arith)
+three-stored (a ∷ []) e = absurd (omega arith)
+three-stored (a ∷ b ∷ []) e = absurd (omega arith)
+three-stored (a ∷ b ∷ c ∷ []) e = refl
+three-stored (a ∷ b ∷ c ∷ d ∷ l) e = absurd (omega arith)
 
 -- what stands at a place of a part
 pub in-part : {A : Type 0} (d : A) (xs : List A) (a k m : ℕ) → m < k → getD (take k (drop a xs)) m d ≡ getD xs (a + m) d

@@ -2,7 +2,7 @@
 use Prim.Native.Nat.{ℕ, zero, suc, _+_, _-_, _*_, _≤_, _<_}
 use native.Mathlib.Nat.{zero-add, suc-add}
 use mathlib.Core.Path.{_≡_, refl, sym, ap, _∙_}
-use mathlib.Core.Bool.{Bool, true, false, _&&_, true≢false}
+use mathlib.Core.Bool.{Bool, true, false, _&&_}
 use mathlib.Core.List.{List, [], _∷_}
 use lib.Dec.{eqb, ltb, leb}
 use lib.ListN.{length, take, drop, length-drop}
@@ -13,6 +13,7 @@ use Rattle.text.specs.Text.{literal, found}
 use Rattle.npy.specs.Header.{isHeader}
 use Rattle.npy.specs.File.{magic, textStart, textLength, textOf, dataOf, dimsOf, longestText, largestSpan, spanOf, hasHeader, hasData, isNpy}
 use Rattle.npy.specs.Bookkeeping.{Headed}
+use Rattle.npy.proofs.Files.{both}
 
 -- the text of the header, out of the file up to its end
 pub from-prefix : (a n : ℕ) (l : List ℕ) → drop a (take (a + n) l) ≡ take n (drop a l)
@@ -26,10 +27,6 @@ and-none false e = refl
 
 and-first : {t : Bool} (u : Bool) → t ≡ false → (t && u) ≡ false
 and-first u e = ap (λ (t : Bool). t && u) e
-
-both : (t u : Bool) → (t && u) ≡ true → (t ≡ true) × (u ≡ true)
-both true u e = (refl, e)
-both false u e = absurd (true≢false (sym e))
 
 module _ (file : List ℕ) where
   abbrev has-magic : Bool

@@ -45,7 +45,7 @@ unfolding dimsOf lengthsOf lengthsIn
 three-dims file = refl
 
 -- ---- what makes a file one of NumPy's, and what such a file has
-both : (a b : Bool) → (a && b) ≡ true → (a ≡ true) × (b ≡ true)
+pub both : (a b : Bool) → (a && b) ≡ true → (a ≡ true) × (b ≡ true)
 both true b e = (refl, e)
 both false b e = absurd (true≢false (sym e))
 

@@ -1,5 +1,5 @@
 -- The laws of files: for the functions of this crate,
-pub mod Headers
+pub mod ShapeEntry
 pub mod Puts
 pub mod Spans
 pub mod Deciding

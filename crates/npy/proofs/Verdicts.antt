@@ -1,7 +1,7 @@
 -- What the checks of the reader and of the writer say.
 use Prim.Native.Nat.{ℕ, _≤_}
-use mathlib.Core.Path.{_≡_, refl, sym, ap, _∙_}
-use mathlib.Core.Bool.{Bool, true, false, not, _||_, cond, true≢false}
+use mathlib.Core.Path.{_≡_, sym, ap, _∙_}
+use mathlib.Core.Bool.{Bool, true, false, not, _||_, cond}
 use mathlib.Core.List.{List, [], _∷_, _++_}
 use lib.Dec.{eqb}
 use borrow.Author.Tests.{ltb-false, eqb-true, eq-eqb, ne-eqb, not-false}
@@ -9,7 +9,7 @@ use Rattle.limits.specs.Limits.{mostPlaces}
 use Rattle.prefilter.specs.Volume.{countOf}
 use Rattle.request.specs.Conditions.{wrong}
 use Rattle.request.specs.Bookkeeping.{Small, Lengths}
-use Rattle.request.proofs.Requests.{small, good-lengths}
+use Rattle.request.proofs.Requests.{small, good-lengths, or-false}
 use Rattle.refusal.specs.declared.Verdict.{Verdict}
 use Rattle.refusal.specs.declared.Verdict.the-variants.{Passed, Refused}
 use Rattle.refusal.specs.declared.Refusal.{Refusal}
@@ -109,9 +109,5 @@ pub record Writes (d : List ℕ) (volume bytes : ℕ) : Type 0 where
 pub write-clear : (d : List ℕ) (volume bytes : ℕ) → first (writeChecks d volume bytes) ≡ Passed → Writes d volume bytes
 write-clear d volume bytes v =
     let h = all-clear (writeChecks d volume bytes) v in
-    let neither = or-none (wrong volume (countOf d)) (wrong bytes (sizeOf d)) (h .1 .1 .0) in
+    let neither = or-false (wrong volume (countOf d)) (wrong bytes (sizeOf d)) (h .1 .1 .0) in
     record { lengths = good-lengths d (h .0); voxels = same-count volume (countOf d) (neither .0); size = same-count bytes (sizeOf d) (neither .1) }
-  where
-    or-none : (t u : Bool) → (t || u) ≡ false → (t ≡ false) × (u ≡ false)
-    or-none false u e = (refl, e)
-    or-none true u e = absurd (true≢false e)

@@ -1,20 +1,8 @@
 -- `npy::put_dims` meets its contract.
-use Prim.Native.Nat.{ℕ}
-use native.Mathlib.Omega.{arith}
-use mathlib.Core.Path.{_≡_, refl}
-use mathlib.Core.List.{List, [], _∷_}
-use lib.ListN.{length, set}
 use borrow.Author.Needs.{needs}
+use Rattle.lists.proofs.Stretches.{three-stored}
 use Rattle.npy.proofs.put_dims.Statement.{statement}
 use Rattle.npy.proofs.put_dims.Tie as tie
-
--- what was in the three places is gone
-three : (l : List ℕ) {x y z : ℕ} → length l ≡ 3 → set (set (set l 0 x) 1 y) 2 z ≡ x ∷ y ∷ z ∷ []
-three [] e = absurd (omega arith)
-three (a ∷ []) e = absurd (omega arith)
-three (a ∷ b ∷ []) e = absurd (omega arith)
-three (a ∷ b ∷ c ∷ []) e = refl
-three (a ∷ b ∷ c ∷ d ∷ l) e = absurd (omega arith)
 
 array-read-dims : tie.Need-array-read-dims
 array-read-dims c = search needs
@@ -38,7 +26,7 @@ same-length : tie.Need-same-length
 same-length c = search needs
 
 returns : tie.Need-returns
-returns c = three (c .args .dims .now) (c .pre)
+returns c = three-stored (c .args .dims .now) (c .pre)
 
 pub put-dims-spec : {M : Type 1} → statement M
 put-dims-spec =

@@ -2,7 +2,7 @@
 use mathlib.Core.Path.{sym, ap, _∙_}
 use lib.ListN.{drop}
 use Rattle.npy.specs.Header.{keyAt, nextEntry}
-use Rattle.npy.proofs.Headers.{shape-first, shape-second, shape-third}
+use Rattle.npy.proofs.ShapeEntry.{shape-first, shape-second, shape-third}
 use borrow.Author.Needs.{needs}
 use Rattle.npy.proofs.header.shape_entry.Statement.{statement}
 use Rattle.npy.proofs.header.shape_entry.Tie as tie

@@ -1,19 +1,8 @@
 -- `numbers::reports::put` meets its contract: what was in the three places is gone.
-use Prim.Native.Nat.{ℕ}
-use native.Mathlib.Omega.{arith}
-use mathlib.Core.Path.{_≡_, refl}
-use mathlib.Core.List.{List, [], _∷_}
-use lib.ListN.{length, set}
 use borrow.Author.Needs.{needs}
+use Rattle.lists.proofs.Stretches.{three-stored}
 use Rattle.numbers.proofs.reports.put.Statement.{statement}
 use Rattle.numbers.proofs.reports.put.Tie as tie
-
-three : (l : List ℕ) {a b c : ℕ} → length l ≡ 3 → set (set (set l 0 a) 1 b) 2 c ≡ a ∷ b ∷ c ∷ []
-three [] e = absurd (omega arith)
-three (x ∷ []) e = absurd (omega arith)
-three (x ∷ y ∷ []) e = absurd (omega arith)
-three (x ∷ y ∷ z ∷ []) e = refl
-three (x ∷ y ∷ z ∷ v ∷ l) e = absurd (omega arith)
 
 slice-write-counts : tie.Need-slice-write-counts
 slice-write-counts c = search needs
@@ -28,7 +17,7 @@ same-length : tie.Need-same-length
 same-length c = search needs
 
 returns : tie.Need-returns
-returns c = three (c .args .counts .now) (c .pre)
+returns c = three-stored (c .args .counts .now) (c .pre)
 
 pub put-spec : {M : Type 1} → statement M
 put-spec =
