@@ -11,7 +11,7 @@ use Rattle.text.specs.Text.{bytes, past, expect, found}
 use Rattle.text.specs.Numeral.{numeral, afterNumeral}
 use Rattle.npy.specs.Header.{firstLength, nextLength, afterShape, lengthsIn, keyAt, valueAt, afterEntry, firstEntry, nextEntry, afterComma, closes, eachOnce, isHeader, shapeEntry, lengthsOf}
 use Rattle.npy.specs.File.{decimal, entries, writtenText, spaces, spacesAfter, padded}
-use Rattle.npy.proofs.Headers.{shape-third}
+use Rattle.npy.proofs.ShapeEntry.{shape-third}
 use Rattle.npy.proofs.Numerals.{Leads, leads-stays, decimal-leads, numeral-back, numeral-behind}
 
 -- ---- the entries, of which the last goes on with any text
