@@ -1,13 +1,12 @@
--- The poles that the code's record holds, one or two, and their gain.
+-- The poles that the code's record holds, one or two.
 use Prim.Native.Nat.{ℕ}
 use mathlib.Core.Path.{_≡_}
 use mathlib.Core.Logic.{⊎-elim}
 use mathlib.Core.List.{[], _∷_}
 use lib.ListN.{getD}
 use lib.Ieee.{nan}
-use Rattle.exact.specs.Rounded.{_⊗_, num}
 use Rattle.poles.specs.declared.Poles.{Poles}
-use Rattle.poles.specs.Poles.{Pole, gainFactor, gainOf}
+use Rattle.poles.specs.Poles.{Pole}
 use Rattle.poles.specs.Bookkeeping.{polesIn, Sound}
 
 -- the pole at a place
@@ -21,12 +20,3 @@ one-in p s h = ⊎-elim (λ e. rw e) (λ e. absurd (h e)) (s .count)
 pub two-in : (p : Poles) → p .count ≡ 2 → polesIn p ≡ poleAt p 0 ∷ poleAt p 1 ∷ []
 unfolding polesIn
 two-in p h = rw h
-
-module _ (p : Poles) where
-  pub gain-one : Sound p → (p .count ≡ 2 → ⊥) → num 1 ⊗ gainFactor (poleAt p 0 .z) ≡ gainOf (polesIn p)
-  unfolding gainOf
-  gain-one s h = rw (one-in p s h)
-
-  pub gain-two : p .count ≡ 2 → num 1 ⊗ gainFactor (poleAt p 0 .z) ⊗ gainFactor (poleAt p 1 .z) ≡ gainOf (polesIn p)
-  unfolding gainOf
-  gain-two h = rw (two-in p h)

@@ -1,5 +1,7 @@
--- The laws of powers and poles, and the theorems on the poles (`Roots`, `Decimals`).
+-- The laws of powers and poles, and the theorems on the stored numbers (`Roots`, `Decimals`, `Gains`).
 pub mod Roots
 pub mod Decimals
+pub mod Gains
 pub mod Powers
+pub mod Orders
 pub mod Held

@@ -37,7 +37,7 @@ unfoldable pub polesOf : ℕ → List Pole
 unfolding poleTable ofOrder
 polesOf order = ofOrder order poleTable
 
--- "The gain is computed with the source's divisions and order": each pole multiplies in (1 - z) (1 - 1 / z)
+-- the source's gain: each pole multiplies in (1 - z) (1 - 1 / z)
 abbrev pub gainFactor : Float → Float
 gainFactor z = (num 1 ⊖ z) ⊗ (num 1 ⊖ num 1 ⊘ z)
 
@@ -48,3 +48,20 @@ gainFrom gain (p ∷ ps) = gainFrom (gain ⊗ gainFactor (p .z)) ps
 unfoldable pub gainOf : List Pole → Float
 unfolding gainFrom
 gainOf ps = gainFrom (num 1) ps
+
+-- an order, and the gain of its poles
+pub record GainLine : Type 0 where
+  pub order : ℕ
+  pub gain : Float
+
+abbrev stored : ℕ → ℕ → GainLine
+stored order bits = record { order = order; gain = ofBits binary64 bits }
+
+-- #102: "Store the gain of each order with the bits now computed"; `gainOf` says what the number means
+unfoldable pub gainTable : List GainLine
+gainTable =
+    stored 2 0x4020_0000_0000_0004
+    ∷ stored 3 0x4017_ffff_ffff_fffe
+    ∷ stored 4 0x4077_ffff_ffff_fb89
+    ∷ stored 5 0x405e_0000_0000_00d4
+    ∷ []

@@ -50,10 +50,10 @@ module _ {d : List ℕ} {count : ℕ} (z : Sized d count) where
 
 pub along-axis :
     (mode : BorderMode) (order : ℕ) (d : List ℕ) (xs : List Float) {axis known : ℕ} {reflect : Bool} {ps : List Pole} {gain : Float} {ys : List Float} →
-    axis ≡ known → reflect ≡ reflects mode → ps ≡ polesOf order → gain ≡ gainOf ps →
+    axis ≡ known → reflect ≡ reflects mode → ps ≡ polesOf order → gain ≡ gainOf (polesOf order) →
     ys ≡ filterAlong (filterLane reflect ps gain) (lengthOf known d) (strideOf known d) xs → ys ≡ filterAxis mode order d axis xs
 unfolding filterAxis
-along-axis mode order d xs e r p g h = rw (e, ← r, ← p, ← g) h
+along-axis mode order d xs e r p g h = rw (e, ← r, ← g, ← p) h
 
 pub in-turn :
     (mode : BorderMode) (order : ℕ) (d : List ℕ) (xs : List Float) {ys₀ ys₁ ys₂ : List Float} →

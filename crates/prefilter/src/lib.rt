@@ -79,7 +79,7 @@ pub fn filter_axis(data: &mut [f64], dims: [usize; 3], axis: usize, order: usize
     ensures { λ _. ⌜ now («data» .exit) ≡ filterAxis mode order dims axis (now («data» .entry)) ⌝ }
 {
     let p = get_filter_poles(order);
-    let gain = filter_gain(p);
+    let gain = filter_gain(order);
     let reflect = reflects(mode);
     let plane = dims[1] * dims[2];
     match axis {

@@ -1,5 +1,4 @@
 -- `poles::get_filter_poles` meets its contract: each arm has the bits of the table.
-use Prim.Native.Nat.{ℕ, _≤_}
 use mathlib.Core.Path.{_≡_, refl}
 use mathlib.Core.Logic.{inl, inr}
 use native.Mathlib.Omega.{arith}
@@ -7,11 +6,9 @@ use lib.Dec.{lit≤}
 use lib.Ieee.{ofBits, neg}
 use Rattle.poles.specs.Poles.{polesOf}
 use Rattle.poles.specs.Bookkeeping.{polesIn}
+use Rattle.poles.proofs.Orders.{five}
 use Rattle.poles.proofs.get_filter_poles.Statement.{statement}
 use Rattle.poles.proofs.get_filter_poles.Tie as tie
-
-five : (order : ℕ) → 2 ≤ order → order ≤ 5 → (order ≡ 2 → ⊥) → (order ≡ 3 → ⊥) → (order ≡ 4 → ⊥) → order ≡ 5
-five order low high a b c = omega arith
 
 returns : tie.Need-returns
 unfolding polesIn polesOf ofBits neg
@@ -34,8 +31,7 @@ returns-3 c =
 returns-4 : tie.Need-returns-4
 unfolding polesIn polesOf ofBits neg
 returns-4 c =
-    let rest = c .match .rest in
-    let e : c .before .args .order ≡ 5 = five (c .before .args .order) (c .before .pre .0) (c .before .pre .1) (rest .0 .0 .1) (rest .0 .1) (rest .1) in
+    let e : c .before .args .order ≡ 5 = five (c .before .pre) (c .match .rest) in
     (record { count = inr refl; first = lit≤ tt; second = λ h. lit≤ tt }, rw e)
 
 pub get-filter-poles-spec : {M : Type 1} → statement M
