@@ -3,5 +3,4 @@ pub mod Roots
 pub mod Decimals
 pub mod Gains
 pub mod Powers
-pub mod Orders
 pub mod Held

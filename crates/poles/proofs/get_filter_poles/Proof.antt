@@ -6,7 +6,6 @@ use lib.Dec.{lit≤}
 use lib.Ieee.{ofBits, neg}
 use Rattle.poles.specs.Poles.{polesOf}
 use Rattle.poles.specs.Bookkeeping.{polesIn}
-use Rattle.poles.proofs.Orders.{five}
 use Rattle.poles.proofs.get_filter_poles.Statement.{statement}
 use Rattle.poles.proofs.get_filter_poles.Tie as tie
 
@@ -31,7 +30,7 @@ returns-3 c =
 returns-4 : tie.Need-returns-4
 unfolding polesIn polesOf ofBits neg
 returns-4 c =
-    let e : c .before .args .order ≡ 5 = five (c .before .pre) (c .match .rest) in
+    let e : c .before .args .order ≡ 5 = omega (arith, c .before .pre) in
     (record { count = inr refl; first = lit≤ tt; second = λ h. lit≤ tt }, rw e)
 
 pub get-filter-poles-spec : {M : Type 1} → statement M
