@@ -1,5 +1,5 @@
 /* Vurelika: resampling of volumes of f64 on three axes, in which each output voxel is marked as
- * computed or filled.
+ * computed, computed with a folded neighbour, or filled.
  *
  * A volume of d0 by d1 by d2 voxels is a flat buffer, last index fastest: the voxel x, y, z stands at
  * (x * d1 + y) * d2 + z. Every buffer is the caller's, given as a pointer and its number of places, and
@@ -58,36 +58,45 @@ enum {
     VURELIKA_BESIDE = 9         /* order 0: a coordinate is kept, but its nearest voxel lies outside */
 };
 
-/* What coverage says of a voxel.
+/* What coverage says of a voxel, and what that means for a density.
  *
- * In Constant code 0 says that its place lay in the scan: on each axis from 0 up to, not including, the
- * length. In the other modes it does not say so: a place beyond the scan is folded back into it and
- * computed there. After a shift by 13.5 on an axis of 20, 14 planes come from before the scan: Constant
- * calls 6 of the 20 computed, Nearest 7, and Mirror, Reflect and Wrap all of them. In every mode a voxel
- * near an edge may blend in a neighbour that was folded back.
+ * A voxel is computed from order + 1 neighbours on each axis. Near an edge some of them lie outside the
+ * scan, and the value of a voxel inside is read in their stead (the fold): some of the scan is then
+ * counted twice. Where such a neighbour has a weight that is not 0 the code is 3, not 0.
  *
- * So for a density choose Constant, and leave out what was not computed (where counts[0] is not 0):
+ * In Constant codes 0 and 3 say that the place lay in the scan: on each axis from 0 up to, not
+ * including, the length. In the other modes they do not say so: a place beyond the scan is folded back
+ * into it and computed there, and that is not remarked. After a shift by 13.5 on an axis of 20, 14 planes
+ * come from before the scan. At order 1 Constant gives code 0 to 6 of the 20, Nearest to 6, with code 3 at
+ * one more, Reflect to 19, with code 3 at one, and Mirror and Wrap to all of them.
+ *
+ * So for a density choose Constant, and count the voxels of code 0 alone (where counts[0] is not 0):
  *
  *     for (i = 0; i < voxels; i++) if (coverage[i] == VURELIKA_COMPUTED) sum += output[i];
  *     mean = sum / counts[VURELIKA_COMPUTED];
  */
 enum {
-    VURELIKA_COMPUTED = 0,      /* computed from input voxels */
-    VURELIKA_FILLED = 1,        /* outside, in Constant: it holds the fill, bit for bit */
-    VURELIKA_DEFAULTED = 2      /* outside, in another mode: it holds 0.0 */
+    VURELIKA_COMPUTED = 0,      /* computed from voxels of the scan, each in its own place: counts */
+    VURELIKA_FILLED = 1,        /* outside, in Constant: it holds the fill, bit for bit; no bone */
+    VURELIKA_DEFAULTED = 2,     /* outside, in another mode: it holds 0.0; no bone */
+    VURELIKA_FOLDED = 3         /* computed, but a neighbour with a weight lay outside the scan and was
+                                   folded back: blends in a voxel that stands elsewhere */
 };
+
+/* How many codes there are, and places of counts. */
+#define VURELIKA_CODES 4
 
 /* Shifts a volume by f0, f1, f2 voxels: the output voxel at index i of an axis is the input at i - f.
  * order 0 copies the nearest voxel, 1 to 5 are splines; with prefilter not 0, orders 2 to 5 filter the
  * voxels first. fill is read in mode Constant alone.
  *
  * input, output and coverage have d0 * d1 * d2 places each; work has at least vurelika_work_count of
- * them, and may be empty where that is 0; counts has exactly 3 places.
+ * them, and may be empty where that is 0; counts has exactly VURELIKA_CODES places, 4.
  *
  * On success output and coverage are written fully, work begins with the filtered coefficients, and
- * counts says how many voxels bear the codes 0, 1 and 2; the three add up to the output's number of
- * places. On any other answer output, coverage and work hold what they held, and counts is 0, 0, 0.
- * counts of another length than 3 is left alone: the answer is then VURELIKA_BUFFER, or what comes
+ * counts says how many voxels bear the codes 0, 1, 2 and 3; the four add up to the output's number of
+ * places. On any other answer output, coverage and work hold what they held, and counts is 0, 0, 0, 0.
+ * counts of another length than 4 is left alone: the answer is then VURELIKA_BUFFER, or what comes
  * before it, VURELIKA_MODE among them. */
 uint32_t vurelika_shift(size_t d0, size_t d1, size_t d2, double f0, double f1, double f2,
                         size_t order, uint32_t prefilter, uint32_t mode, double fill,

@@ -5,4 +5,5 @@ pub mod Lengths
 pub mod Reaches
 pub mod Inside
 pub mod Points
+pub mod Folding
 pub mod Worked

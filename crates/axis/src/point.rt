@@ -60,7 +60,7 @@ fn kept_point(to: f64, len: usize, order: usize, mode: BorderMode) -> Point
     }
 }
 
-fn first_neighbour(order: usize, to: f64) -> f64
+pub(crate) fn first_neighbour(order: usize, to: f64) -> f64
     ensures { λ r. ⌜ r ≡ firstNeighbour order to ⌝ }
 {
     base_of(order, to) - float_of(order / 2)

@@ -24,14 +24,18 @@ count-more l i h = ap (λ (n : ℕ). countsFrom none (take n l)) (add-one i) ∙
 -- each code counts once
 total-with : (c : Counts) (code : ℕ) → total (withCode c code) ≡ total c + 1
 unfolding withCode
-total-with c code = go (eqb code 0) (eqb code 1)
+total-with c code = go (eqb code 0) (eqb code 1) (eqb code 2)
   where
-    go : (t u : Bool)
-        → total (cond t (record { computed = c .computed + 1; filled = c .filled; defaulted = c .defaulted }) (cond u (record { computed = c .computed; filled = c .filled + 1; defaulted = c .defaulted }) (record { computed = c .computed; filled = c .filled; defaulted = c .defaulted + 1 })))
+    go : (t u v : Bool)
+        → total (cond t (record { computed = c .computed + 1; filled = c .filled; defaulted = c .defaulted; folded = c .folded })
+        (cond u (record { computed = c .computed; filled = c .filled + 1; defaulted = c .defaulted; folded = c .folded })
+        (cond v (record { computed = c .computed; filled = c .filled; defaulted = c .defaulted + 1; folded = c .folded })
+        (record { computed = c .computed; filled = c .filled; defaulted = c .defaulted; folded = c .folded + 1 }))))
         ≡ total c + 1
-    go true u = omega arith
-    go false true = omega arith
-    go false false = omega arith
+    go true u v = omega arith
+    go false true v = omega arith
+    go false false true = omega arith
+    go false false false = omega arith
 
 total-from : (c : Counts) (xs : List ℕ) → total (countsFrom c xs) ≡ total c + length xs
 unfolding countsFrom

@@ -8,6 +8,7 @@ pub struct Counts {
     pub computed: usize,
     pub filled: usize,
     pub defaulted: usize,
+    pub folded: usize,
 }
 
 impl Counts {
@@ -18,6 +19,7 @@ impl Counts {
             computed: 0,
             filled: 0,
             defaulted: 0,
+            folded: 0,
         }
     }
 
@@ -30,8 +32,10 @@ impl Counts {
             self.computed += 1;
         } else if code == 1 {
             self.filled += 1;
-        } else {
+        } else if code == 2 {
             self.defaulted += 1;
+        } else {
+            self.folded += 1;
         }
         self
     }

@@ -1,15 +1,16 @@
 // The coverage of a volume: the code of every voxel. No voxel is read here.
 ghost use mathlib.Core.Path.{_≡_};
-ghost use mathlib.Core.Bool.{false, _&&_, cond};
+ghost use mathlib.Core.Bool.{false, _&&_};
 ghost use Prim.Native.Nat.{_+_, _*_, _/_, _<_, _≤_};
 ghost use lib.ListN.{length, getD};
 ghost use Rattle.limits.specs.Limits.{longest};
 ghost use Rattle.lists.specs.Tabulate.{tabulate};
 ghost use Rattle.lists.specs.Bookkeeping.{Filled};
-ghost use Rattle.coverage.specs.Coverage.{dropCode, keptAt, codeBy, codes};
-ghost use Rattle.coverage.specs.Bookkeeping.{codeInPlane, codeByFlags};
+ghost use Rattle.coverage.specs.Coverage.{dropCode, keptAt, ownCodes};
+ghost use Rattle.coverage.specs.Bookkeeping.{axisCode, joined, codeInPlane, codeByAxes};
 use axis::coordinate::Axis;
 use axis::coordinate::settled_at;
+use axis::folded::is_folded;
 use border::BorderMode;
 use limits::LONGEST;
 
@@ -45,90 +46,121 @@ pub fn mark_kept(kept: &mut [bool], a: Axis, mode: BorderMode)
     }
 }
 
-// A row whose other two axes are kept or not.
-fn cover_row(row: &mut [u8], kept: &[bool], others: bool, mode: BorderMode)
-    requires { ⌜ length (now row) ≤ length (now kept) ⌝ }
-    ensures { λ _. ⌜ now (row .exit) ≡ tabulate (length (now (row .entry))) (λ k. codeBy mode (others && getD (now (kept .entry)) k false)) ⌝ }
-{
-    let code = drop_code(mode);
-    let mut k = 0;
-    while k < row.len() {
-        row[k] = code_of(others, kept[k], code);
-        k += 1;
-    }
-}
-
-fn code_of(others: bool, kept: bool, code: u8) -> u8
-    ensures { λ r. ⌜ r ≡ cond (others && kept) 0 code ⌝ }
-{
-    if others {
-        if kept {
-            return 0;
-        }
-    }
-    code
-}
-
-// A plane at an index of axis 0 that is kept or not.
-fn cover_plane(plane: &mut [u8], kept: &[bool], ya: Axis, row: usize, first: bool, mode: BorderMode)
-    requires { ⌜ row ≤ length (now kept) ⌝ }
-    requires { ⌜ length (now plane) ≡ ya .out * row ⌝ }
-    requires { ⌜ 1 ≤ row ⌝ }
-    ensures { λ _. ⌜ now (plane .exit) ≡ tabulate (ya .out * row) (codeInPlane mode ya row first (now (kept .entry))) ⌝ }
-{
-    let n = ya.out;
-    let mut j = 0;
-    while j < n {
-        let others = both(first, is_kept(ya, j, mode));
-        cover_row(&mut plane[j * row..(j + 1) * row], kept, others, mode);
-        j += 1;
-    }
-}
-
 pub fn both(a: bool, b: bool) -> bool
     ensures { λ r. ⌜ r ≡ a && b ⌝ }
 {
     if a { b } else { false }
 }
 
-// The planes, by the flags of the last axis.
-fn cover_planes(
-    coverage: &mut [u8],
-    kept: &[bool],
-    xa: Axis,
-    ya: Axis,
-    row: usize,
-    mode: BorderMode,
-)
-    requires { ⌜ (1 ≤ row) × ((row ≤ longest) × (row ≤ length (now kept))) ⌝ }
-    requires { ⌜ ya .out ≤ longest ⌝ }
-    requires { ⌜ length (now coverage) ≡ xa .out * (ya .out * row) ⌝ }
-    ensures { λ _. ⌜ now (coverage .exit) ≡ tabulate (xa .out * (ya .out * row)) (codeByFlags mode xa ya row (now (kept .entry))) ⌝ }
+// What an axis says of its output index.
+fn axis_code(a: Axis, i: usize, order: usize, mode: BorderMode) -> u8
+    requires { ⌜ order ≤ 5 ⌝ }
+    ensures { λ r. ⌜ r ≡ axisCode order mode a i ⌝ }
 {
-    let plane = ya.out * row;
-    let n = xa.out;
+    if is_kept(a, i, mode) {
+        if is_folded(a, i, order, mode) {
+            return 3;
+        }
+        return 0;
+    }
+    drop_code(mode)
+}
+
+// And of all of them.
+fn axis_codes(codes: &mut [u8], a: Axis, order: usize, mode: BorderMode)
+    requires { ⌜ (order ≤ 5) × (a .out ≤ length (now codes)) ⌝ }
+    ensures { λ _. ⌜ Filled (axisCode order mode a) 0 (now (codes .exit)) (a .out) ⌝ }
+{
+    let n = a.out;
     let mut i = 0;
     while i < n {
-        let first = is_kept(xa, i, mode);
+        codes[i] = axis_code(a, i, order, mode);
+        i += 1;
+    }
+}
+
+// Dropped by one of two axes, else folded by one of them.
+fn join(c: u8, d: u8) -> u8
+    ensures { λ r. ⌜ r ≡ joined c d ⌝ }
+{
+    if c == 0 {
+        return d;
+    }
+    if d == 0 {
+        return c;
+    }
+    if c == 3 { d } else { c }
+}
+
+// A row of which the other two axes say `others`.
+fn cover_row(row: &mut [u8], zs: &[u8], others: u8)
+    requires { ⌜ length (now row) ≤ length (now zs) ⌝ }
+    ensures { λ _. ⌜ now (row .exit) ≡ tabulate (length (now (row .entry))) (λ k. joined others (getD (now (zs .entry)) k 0)) ⌝ }
+{
+    let mut k = 0;
+    while k < row.len() {
+        row[k] = join(others, zs[k]);
+        k += 1;
+    }
+}
+
+// A plane of which axis 0 says `first`.
+fn cover_plane(plane: &mut [u8], ys: &[u8], zs: &[u8], rows: usize, row: usize, first: u8)
+    requires { ⌜ (rows ≤ length (now ys)) × (row ≤ length (now zs)) ⌝ }
+    requires { ⌜ length (now plane) ≡ rows * row ⌝ }
+    requires { ⌜ 1 ≤ row ⌝ }
+    ensures { λ _. ⌜ now (plane .exit) ≡ tabulate (rows * row) (codeInPlane first (now (ys .entry)) (now (zs .entry)) row) ⌝ }
+{
+    let mut j = 0;
+    while j < rows {
+        let others = join(first, ys[j]);
+        cover_row(&mut plane[j * row..(j + 1) * row], zs, others);
+        j += 1;
+    }
+}
+
+// The planes.
+fn cover_planes(
+    coverage: &mut [u8],
+    xs: &[u8],
+    ys: &[u8],
+    zs: &[u8],
+    planes: usize,
+    rows: usize,
+    row: usize,
+)
+    requires { ⌜ (planes ≤ length (now xs)) × ((rows ≤ length (now ys)) × (row ≤ length (now zs))) ⌝ }
+    requires { ⌜ (rows ≤ longest) × ((1 ≤ row) × (row ≤ longest)) ⌝ }
+    requires { ⌜ length (now coverage) ≡ planes * (rows * row) ⌝ }
+    ensures { λ _. ⌜ now (coverage .exit) ≡ tabulate (planes * (rows * row)) (codeByAxes (now (xs .entry)) (now (ys .entry)) (now (zs .entry)) rows row) ⌝ }
+{
+    let plane = rows * row;
+    let mut i = 0;
+    while i < planes {
         cover_plane(
             &mut coverage[i * plane..(i + 1) * plane],
-            kept,
-            ya,
+            ys,
+            zs,
+            rows,
             row,
-            first,
-            mode,
+            xs[i],
         );
         i += 1;
     }
 }
 
 // The whole coverage.
-pub fn cover(coverage: &mut [u8], xa: Axis, ya: Axis, za: Axis, mode: BorderMode)
+pub fn cover(coverage: &mut [u8], xa: Axis, ya: Axis, za: Axis, order: usize, mode: BorderMode)
+    requires { ⌜ order ≤ 5 ⌝ }
     requires { ⌜ length (now coverage) ≡ xa .out * (ya .out * za .out) ⌝ }
-    requires { ⌜ (ya .out ≤ longest) × ((1 ≤ za .out) × (za .out ≤ longest)) ⌝ }
-    ensures { λ _. ⌜ now (coverage .exit) ≡ codes mode xa ya za ⌝ }
+    requires { ⌜ (xa .out ≤ longest) × ((ya .out ≤ longest) × ((1 ≤ za .out) × (za .out ≤ longest))) ⌝ }
+    ensures { λ _. ⌜ now (coverage .exit) ≡ ownCodes order mode xa ya za ⌝ }
 {
-    let mut kept = [false; LONGEST];
-    mark_kept(&mut kept, za, mode);
-    cover_planes(coverage, &kept, xa, ya, za.out, mode);
+    let mut xs = [0; LONGEST];
+    let mut ys = [0; LONGEST];
+    let mut zs = [0; LONGEST];
+    axis_codes(&mut xs, xa, order, mode);
+    axis_codes(&mut ys, ya, order, mode);
+    axis_codes(&mut zs, za, order, mode);
+    cover_planes(coverage, &xs, &ys, &zs, xa.out, ya.out, za.out);
 }

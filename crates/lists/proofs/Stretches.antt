@@ -1,11 +1,11 @@
 -- A list whose first places are filled by a rule: one store more, and one lent stretch more.
-use Prim.Native.Nat.{ℕ, _+_, _*_, _-_, _≤_, _<_}
+use Prim.Native.Nat.{ℕ, zero, suc, _+_, _*_, _-_, _≤_, _<_}
 use mathlib.Core.Path.{_≡_, refl, ap, sym, _∙_, subst}
 use mathlib.Core.Logic.{dite, ⊎-elim}
 use native.Mathlib.Decide.{decLt}
 use mathlib.Core.List.{List, [], _∷_, _++_}
 use native.Mathlib.Omega.{arith}
-use native.Mathlib.Nat.{add-mul, eq-or-lt-of-le, not-suc-le-zero, zero-mul, mul-le-mul-right}
+use native.Mathlib.Nat.{add-mul, eq-or-lt-of-le, not-suc-le-zero, zero-lt-suc, zero-mul, mul-zero, mul-le-mul-right}
 use borrow.Rule.Slice.PartMut.{same-len-mid, postOf}
 use lib.ListN.{length, getD, take, drop, set, length-take, length-drop, List·getD-append}
 use Rattle.lists.specs.Tabulate.{tabulate}
@@ -45,6 +45,11 @@ three-stored (a ∷ b ∷ []) e = absurd (omega arith)
 three-stored (a ∷ b ∷ c ∷ []) e = refl
 three-stored (a ∷ b ∷ c ∷ d ∷ l) e = absurd (omega arith)
 
+-- and four, into four
+pub four-stored : {A : Type 0} (l : List A) {x y z w : A} → length l ≡ 4 → set (set (set (set l 0 x) 1 y) 2 z) 3 w ≡ x ∷ y ∷ z ∷ w ∷ []
+four-stored [] e = absurd (omega arith)
+four-stored (a ∷ l) {x} e = ap (λ (r : List _). x ∷ r) (three-stored l (omega arith))
+
 -- what stands at a place of a part
 pub in-part : {A : Type 0} (d : A) (xs : List A) (a k m : ℕ) → m < k → getD (take k (drop a xs)) m d ≡ getD xs (a + m) d
 in-part d xs a k m h = getD-take k (drop a xs) m d h ∙ getD-drop a xs m d
@@ -66,6 +71,11 @@ pub stretch-within : (j n w long : ℕ) → j < n → long ≡ n * w → (j * w 
 stretch-within j n w long h e =
     let b : (j + 1) * w ≤ n * w = mul-le-mul-right w (omega arith) in
     omega (arith, next j w)
+
+-- where there is a place, a stretch has one
+pub some-place : (n w : ℕ) {m : ℕ} → m < n * w → 0 < w
+some-place n zero h = absurd (omega (arith, mul-zero n))
+some-place n (suc w) h = zero-lt-suc w
 
 pub next-written :
     {A : Type 0} (f : ℕ → A) (d : A) (w n : ℕ) (l ys : List A) (j : ℕ) → j < n → Written f d w (n * w) l j → length ys ≡ length (take ((j + 1) * w - j * w) (drop (j * w) l)) →

@@ -41,10 +41,10 @@ plainRequestOf d0 d1 d2 order prefilter mode fill = requestOf d0 d1 d2 (num 0) (
 
 -- ---- the counts: a place for each code
 abbrev pub places : ℕ
-places = 3
+places = 4
 
 abbrev pub tally : Counts → List ℕ
-tally c = c .computed ∷ c .filled ∷ c .defaulted ∷ []
+tally c = c .computed ∷ c .filled ∷ c .defaulted ∷ c .folded ∷ []
 
 unfoldable pub cleared : List ℕ → List ℕ
 cleared counts = cond (eqb (length counts) places) (tally none) counts

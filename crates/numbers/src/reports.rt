@@ -9,7 +9,7 @@ use resample::counts_in;
 use resample::number_in;
 
 // The places of `counts`: one for each code.
-pub const PLACES: usize = 3;
+pub const PLACES: usize = 4;
 
 fn put(counts: &mut [u64], c: Counts)
     requires { ⌜ length (now counts) ≡ places ⌝ }
@@ -18,6 +18,7 @@ fn put(counts: &mut [u64], c: Counts)
     counts[0] = c.computed as u64;
     counts[1] = c.filled as u64;
     counts[2] = c.defaulted as u64;
+    counts[3] = c.folded as u64;
 }
 
 // The answer's number; its counts are written.
@@ -29,7 +30,7 @@ pub fn report(counts: &mut [u64], answer: Answer) -> u32
     number_in(answer)
 }
 
-// Three zeros, where there are three places.
+// Zeros, where there is a place for each code.
 pub fn clear(counts: &mut [u64])
     ensures { λ _. ⌜ now (counts .exit) ≡ cleared (now (counts .entry)) ⌝ }
 {

@@ -1,6 +1,6 @@
 -- The voxel x, y, z of a volume that is given place by place.
-use Prim.Native.Nat.{ℕ, zero, suc, _+_, _*_, _/_, _%_, _<_}
-use native.Mathlib.Nat.{zero-lt-suc, mul-zero, mod-lt, div-add-mod', div-lt-iff-lt-mul}
+use Prim.Native.Nat.{ℕ, _+_, _*_, _/_, _%_, _<_}
+use native.Mathlib.Nat.{mod-lt, div-add-mod', div-lt-iff-lt-mul}
 use native.Mathlib.Omega.{arith}
 use mathlib.Core.Path.{_≡_, ap, subst, _∙_}
 use mathlib.Core.List.{List}
@@ -9,6 +9,7 @@ use lib.ListN.{getD}
 use lib.Ieee.{Float, nan}
 use Rattle.lists.specs.Tabulate.{tabulate}
 use Rattle.lists.proofs.Tabulated.{getD-tabulate}
+use Rattle.lists.proofs.Stretches.{some-place}
 use Rattle.coverage.specs.Coverage.{xOf, yOf, zOf, codeAt, codes}
 use Rattle.voxels.specs.Voxel.{voxelAt, values}
 use Rattle.border.specs.declared.BorderMode.{BorderMode}
@@ -35,16 +36,12 @@ pub each-place : (d : List ℕ) (P : ℕ → Type 0) → ((i j k : ℕ) → Insi
 each-place d P h m l =
     let row = getD d 2 0 in
     let plane = getD d 1 0 * row in
-    let some : 0 < plane = last-pos (getD d 0 0) plane (omega arith) in
+    let some : 0 < plane = some-place (getD d 0 0) plane l in
     let q = m % plane in
     let below : q < plane = mod-lt m some in
-    let some' : 0 < row = last-pos (getD d 1 0) row some in
+    let some' : 0 < row = some-place (getD d 1 0) row below in
     let own : m / plane * plane + (q / row * row + q % row) ≡ m = omega (arith, div-add-mod' m plane, div-add-mod' q row) in
     subst P own (h (m / plane) (q / row) (q % row) (record { x = div-lt-iff-lt-mul some .1 l; y = div-lt-iff-lt-mul some' .1 below; z = mod-lt q some' }))
-  where
-    last-pos : (a b : ℕ) → 0 < a * b → 0 < b
-    last-pos a zero h = absurd (omega (arith, mul-zero a))
-    last-pos a (suc b) h = zero-lt-suc b
 
 module _ (mode : BorderMode) (xa ya za : Axis) (i j k : ℕ) (hi : i < xa .out) (hj : j < ya .out) (hk : k < za .out) where
   code-at : getD (codes mode xa ya za) (i * (ya .out * za .out) + (j * za .out + k)) 0 ≡ codeAt mode xa ya za i j k

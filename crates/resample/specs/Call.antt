@@ -1,4 +1,4 @@
--- "A refusal returns its number and counts 0, 0, 0; output, coverage and work hold what they held. Success returns the three counts and writes output and coverage fully. Work then begins with the filtered coefficients (needed count); the rest is untouched."
+-- "A refusal returns its number and counts 0, 0, 0; output, coverage and work hold what they held. Success returns the three counts and writes output and coverage fully. Work then begins with the filtered coefficients (needed count); the rest is untouched." #103: "The counts become four everywhere, refusals included."
 use Prim.Native.Nat.{ℕ}
 use mathlib.Core.Bool.{cond}
 use mathlib.Core.List.{List, _++_}
@@ -16,7 +16,7 @@ use Rattle.request.specs.declared.Axes.{Axes}
 use Rattle.request.specs.declared.Request.{Request}
 use Rattle.request.specs.Sizes.{filters, padding, sourceDims, needed, shiftAxes, zoomAxes}
 use Rattle.refusal.specs.Refusals.{numberOf, first, shiftChecks, zoomChecks, splineFilterChecks, splineFilter1dChecks}
-use Rattle.coverage.specs.Coverage.{codes, countsOf, none}
+use Rattle.coverage.specs.Coverage.{ownCodes, countsOf, none}
 use Rattle.voxels.specs.Voxel.{values}
 
 -- ---- what the sums read: "Nearest in `shift` and `zoom` first pads"
@@ -42,8 +42,9 @@ callOf answer output coverage work = record { answer = answer; output = output; 
 abbrev pub valuesOf : Request → Axes → List Float → List Float
 valuesOf r a input = values (r .order) (r .mode) (a .x) (a .y) (a .z) (coefficients r input)
 
+-- the coverage that is written: each voxel's own code
 abbrev pub codesOf : Request → Axes → List ℕ
-codesOf r a = codes (r .mode) (a .x) (a .y) (a .z)
+codesOf r a = ownCodes (r .order) (r .mode) (a .x) (a .y) (a .z)
 
 abbrev pub workAfter : Request → List Float → List Float → List Float
 workAfter r input work = cond (filters r) (coefficients r input ++ drop (needed r) work) work

@@ -96,15 +96,16 @@ fn write_values(r: Request, a: Axes, input: &[f64], output: &mut [f64], work: &m
 
 // The codes, and their counts.
 fn write_codes(r: Request, a: Axes, coverage: &mut [u8]) -> Counts
+    requires { ⌜ r .order ≤ 5 ⌝ }
     requires { ⌜ length (now coverage) ≡ a .x .out * (a .y .out * a .z .out) ⌝ }
-    requires { ⌜ (a .y .out ≤ longest) × ((1 ≤ a .z .out) × (a .z .out ≤ longest)) ⌝ }
+    requires { ⌜ (a .x .out ≤ longest) × ((a .y .out ≤ longest) × ((1 ≤ a .z .out) × (a .z .out ≤ longest))) ⌝ }
     ensures { λ c. ⌜ (now (coverage .exit) ≡ codesOf r a) × (c ≡ countsOf (codesOf r a)) ⌝ }
 {
     let mode = r.mode;
     let x = a.x;
     let y = a.y;
     let z = a.z;
-    cover(coverage, x, y, z, mode);
+    cover(coverage, x, y, z, r.order, mode);
     count_codes(coverage)
 }
 

@@ -5,7 +5,7 @@ use native.Mathlib.Nat.{mul-le-mul}
 use native.Mathlib.Omega.{arith}
 use lib.ListN.{length, take, drop}
 use Rattle.lists.proofs.Stretches.{next, part-length, Written, none-written, stretch-within, next-written, all-written}
-use Rattle.coverage.specs.Bookkeeping.{codeByFlags}
+use Rattle.coverage.specs.Bookkeeping.{codeByAxes}
 use Rattle.coverage.proofs.Covering.{plane-filled}
 use Rattle.coverage.proofs.cover.cover_planes.Statement.{statement}
 use Rattle.coverage.proofs.cover.cover_planes.Tie as tie
@@ -14,18 +14,18 @@ small : (a b : ℕ) → a ≤ 4096 → b ≤ 4096 → a * b ≤ 4096 * 4096
 small a b h k = mul-le-mul h k
 
 abbrev Inv-loop : tie.InvT-loop
-Inv-loop coverage₀ kept xa ya row mode plane n i₀ coverage i = (i ≤ n) × Written (codeByFlags mode xa ya row kept) 0 plane (n * plane) coverage i
+Inv-loop coverage₀ xs ys zs planes rows row plane i₀ coverage i = (i ≤ planes) × Written (codeByAxes xs ys zs rows row) 0 plane (planes * plane) coverage i
 
 abbrev μ-loop : tie.MeasureT-loop
-μ-loop coverage₀ kept xa ya row mode plane n i₀ coverage i = n - i
+μ-loop coverage₀ xs ys zs planes rows row plane i₀ coverage i = planes - i
 
 -- plane i lies within the coverage
 module _ (c : tie.In-loop Inv-loop μ-loop) where
   abbrev plane : ℕ
-  plane = c .before .before .before .before .before .args .ya .out * c .before .before .before .before .before .args .row
+  plane = c .before .before .before .before .before .before .args .rows * c .before .before .before .before .before .before .args .row
 
   room : (c .before .loop .i * plane ≤ (c .before .loop .i + 1) * plane) × ((c .before .loop .i + 1) * plane ≤ length (c .before .loop .coverage))
-  room = stretch-within (c .before .loop .i) (c .before .before .before .before .before .args .xa .out) plane (length (c .before .loop .coverage)) (omega arith) (c .before .loop .inv .1 .same)
+  room = stretch-within (c .before .loop .i) (c .before .before .before .before .before .before .args .planes) plane (length (c .before .loop .coverage)) (omega arith) (c .before .loop .inv .1 .same)
 
   plane-long : length (take ((c .before .loop .i + 1) * plane - c .before .loop .i * plane) (drop (c .before .loop .i * plane) (c .before .loop .coverage))) ≡ plane
   plane-long =
@@ -33,39 +33,40 @@ module _ (c : tie.In-loop Inv-loop μ-loop) where
       part-length (c .before .loop .coverage) (c .before .loop .i * plane) ((c .before .loop .i + 1) * plane - c .before .loop .i * plane) (omega (arith, room)) ∙ k
 
 mul-plane : tie.Need-mul-plane Inv-loop μ-loop
-mul-plane c = omega (arith, small (c .before .before .before .args .ya .out) (c .before .before .before .args .row) (c .before .before .before .pre .1 .0) (c .before .before .before .pre .0 .1 .0))
+mul-plane c = let s = c .before .before .before .before in omega (arith, small (s .args .rows) (s .args .row) (s .pre .1 .0 .0) (s .pre .1 .0 .1 .1))
 
 loop-holds : tie.Need-loop-holds Inv-loop μ-loop
 loop-holds c =
-    let a = c .before .before .before .args in
-    let plane = a .ya .out * a .row in
-    (omega arith, subst (λ (long : ℕ). Written (codeByFlags (a .mode) (a .xa) (a .ya) (a .row) (a .kept .now)) 0 plane long (a .coverage .now) 0) (c .before .before .before .pre .1 .1) (none-written (codeByFlags (a .mode) (a .xa) (a .ya) (a .row) (a .kept .now)) 0 plane (a .coverage .now)))
-
-is-kept-requires : tie.Need-is-kept-requires Inv-loop μ-loop
-is-kept-requires c κs = tt
+    let a = c .before .before .before .before .args in
+    let plane = a .rows * a .row in
+    let code = codeByAxes (a .xs .now) (a .ys .now) (a .zs .now) (a .rows) (a .row) in
+    (omega arith, subst (λ (long : ℕ). Written code 0 plane long (a .coverage .now) 0) (c .before .before .before .before .pre .1 .1) (none-written code 0 plane (a .coverage .now)))
 
 mul-cover-plane : tie.Need-mul-cover-plane Inv-loop μ-loop
-mul-cover-plane c = omega (arith, room (c .before))
+mul-cover-plane c = omega (arith, room c)
 
 add-cover-plane : tie.Need-add-cover-plane Inv-loop μ-loop
 add-cover-plane c = omega arith
 
 mul-cover-plane-2 : tie.Need-mul-cover-plane-2 Inv-loop μ-loop
-mul-cover-plane-2 c = omega (arith, room (c .before))
+mul-cover-plane-2 c = omega (arith, room c)
 
 sub-cover-plane : tie.Need-sub-cover-plane Inv-loop μ-loop
-sub-cover-plane c = omega (arith, room (c .before))
+sub-cover-plane c = omega (arith, room c)
 
 part-cover-plane-start : tie.Need-part-cover-plane-start Inv-loop μ-loop
-part-cover-plane-start c = omega (arith, room (c .before))
+part-cover-plane-start c = omega (arith, room c)
 
 part-cover-plane-end : tie.Need-part-cover-plane-end Inv-loop μ-loop
-part-cover-plane-end c = omega (arith, room (c .before))
+part-cover-plane-end c = omega (arith, room c)
+
+shared-slice-read-cover-plane : tie.Need-shared-slice-read-cover-plane Inv-loop μ-loop
+shared-slice-read-cover-plane c = omega (arith, c .before .before .before .before .before .before .before .before .pre)
 
 cover-plane-requires : tie.Need-cover-plane-requires Inv-loop μ-loop
 cover-plane-requires c κs =
-    let p = c .before .before .before .before .before .before .before .pre in
-    (p .0 .1 .1, (plane-long (c .before .before), p .0 .0))
+    let p = c .before .before .before .before .before .before .before .before .pre in
+    (p .0 .1, (plane-long (c .before .before), p .1 .0 .1 .0))
 
 add-i : tie.Need-add-i Inv-loop μ-loop
 add-i c = omega arith
@@ -75,24 +76,24 @@ loop-less c = omega arith
 
 loop-again : tie.Need-loop-again Inv-loop μ-loop
 loop-again c =
-    let a = c .before .before .before .before .before .before .before .before .before .before .args in
+    let a = c .before .before .before .before .before .before .before .before .before .before .before .args in
     let l = c .before .before .before .before .before .before .loop in
     let call = c .before .before .cover-plane in
-    let first = c .before .before .before .before .is-kept in
-    let plane = a .ya .out * a .row in (
+    let xs = a .xs .now in
+    let ys = a .ys .now in
+    let zs = a .zs .now in (
       omega arith,
-      next-written (codeByFlags (a .mode) (a .xa) (a .ya) (a .row) (a .kept .now)) 0 plane (a .xa .out) (l .coverage) (call .last .0) (l .i) (omega arith) (l .inv .1) (call .kept .0)
-          (plane-filled (a .mode) (a .xa) (a .ya) (a .row) (first .result) (a .kept .now) (l .i) (call .last .0) (first .ensures) (call .ensures)),
+      next-written (codeByAxes xs ys zs (a .rows) (a .row)) 0 (a .rows * a .row) (a .planes) (l .coverage) (call .last .0) (l .i) (omega arith) (l .inv .1) (call .kept .0) (plane-filled xs ys zs (a .rows) (a .row) (l .i) (call .last .0) (call .ensures)),
     )
 
 same-length : tie.Need-same-length Inv-loop μ-loop
-same-length c = c .before .loop .inv .1 .same ∙ sym (c .before .before .before .before .before .pre .1 .1)
+same-length c = c .before .loop .inv .1 .same ∙ sym (c .before .before .before .before .before .before .pre .1 .1)
 
 returns : tie.Need-returns Inv-loop μ-loop
 returns c =
-    let a = c .before .before .before .before .before .args in
+    let a = c .before .before .before .before .before .before .args in
     let l = c .before .loop in
-    all-written (codeByFlags (a .mode) (a .xa) (a .ya) (a .row) (a .kept .now)) 0 (a .ya .out * a .row) (a .xa .out) (l .coverage) (l .i) (omega arith) (l .inv .1)
+    all-written (codeByAxes (a .xs .now) (a .ys .now) (a .zs .now) (a .rows) (a .row)) 0 (a .rows * a .row) (a .planes) (l .coverage) (l .i) (omega arith) (l .inv .1)
 
 pub cover-planes-spec : {M : Type 1} → statement M
 cover-planes-spec =
@@ -102,13 +103,13 @@ cover-planes-spec =
     μ-loop
     mul-plane
     loop-holds
-    is-kept-requires
     mul-cover-plane
     add-cover-plane
     mul-cover-plane-2
     sub-cover-plane
     part-cover-plane-start
     part-cover-plane-end
+    shared-slice-read-cover-plane
     cover-plane-requires
     add-i
     loop-less

@@ -1,34 +1,30 @@
 -- `coverage::cover::cover_row` meets its contract: the codes so far are those of the places passed.
 use Prim.Native.Nat.{ℕ, _-_, _≤_}
-use mathlib.Core.Path.{_≡_, _∙_, ap}
-use mathlib.Core.Bool.{false, _&&_, cond}
+use mathlib.Core.Path.{_≡_}
 use native.Mathlib.Nat.{not-suc-le-zero}
 use native.Mathlib.Omega.{arith}
 use lib.ListN.{length, getD, length-set}
-use Rattle.lists.specs.Tabulate.{tabulate}
 use Rattle.lists.specs.Bookkeeping.{Filled}
 use Rattle.lists.proofs.Tabulated.{is-tabulate}
 use Rattle.lists.proofs.Stretches.{put}
+use Rattle.coverage.specs.Bookkeeping.{joined}
 use Rattle.coverage.proofs.cover.cover_row.Statement.{statement}
 use Rattle.coverage.proofs.cover.cover_row.Tie as tie
 
 abbrev Inv-loop : tie.InvT-loop
-Inv-loop row₀ kept others code k₀ row k = (k ≤ length row) × ((length row ≡ length row₀) × Filled (λ (m : ℕ). cond (others && getD kept m false) 0 code) 0 row k)
+Inv-loop row₀ zs others k₀ row k = (k ≤ length row) × ((length row ≡ length row₀) × Filled (λ (m : ℕ). joined others (getD zs m 0)) 0 row k)
 
 abbrev μ-loop : tie.MeasureT-loop
-μ-loop row₀ kept others code k₀ row k = length row₀ - k
-
-drop-code-requires : tie.Need-drop-code-requires Inv-loop μ-loop
-drop-code-requires c κs = tt
+μ-loop row₀ zs others k₀ row k = length row₀ - k
 
 loop-holds : tie.Need-loop-holds Inv-loop μ-loop
 loop-holds c = (omega arith, (omega arith, λ m h. absurd (not-suc-le-zero h)))
 
-shared-slice-read-code-of : tie.Need-shared-slice-read-code-of Inv-loop μ-loop
-shared-slice-read-code-of c = omega (arith, c .before .before .before .before .before .before .pre)
+shared-slice-read-join : tie.Need-shared-slice-read-join Inv-loop μ-loop
+shared-slice-read-join c = omega (arith, c .before .before .before .before .before .pre)
 
-code-of-requires : tie.Need-code-of-requires Inv-loop μ-loop
-code-of-requires c κs = tt
+join-requires : tie.Need-join-requires Inv-loop μ-loop
+join-requires c κs = tt
 
 slice-write-row : tie.Need-slice-write-row Inv-loop μ-loop
 slice-write-row c = omega arith
@@ -41,21 +37,18 @@ loop-less c = omega arith
 
 loop-again : tie.Need-loop-again Inv-loop μ-loop
 loop-again c =
-    let a = c .before .before .before .before .before .before .before .args in
-    let code = c .before .before .before .before .drop-code .result in
+    let a = c .before .before .before .before .before .before .args in
     let l = c .before .before .before .loop in
-    (simp length-set (omega arith), (simp length-set (omega arith), put (λ (m : ℕ). cond (a .others && getD (a .kept .now) m false) 0 code) 0 (l .row) (l .k) (c .code-of .result) (c .code-of .ensures) (omega arith) (l .inv .1 .1)))
+    (simp length-set (omega arith), (simp length-set (omega arith), put (λ (m : ℕ). joined (a .others) (getD (a .zs .now) m 0)) 0 (l .row) (l .k) (c .join .result) (c .join .ensures) (omega arith) (l .inv .1 .1)))
 
 same-length : tie.Need-same-length Inv-loop μ-loop
 same-length c = omega arith
 
 returns : tie.Need-returns Inv-loop μ-loop
 returns c =
-    let a = c .before .before .before .before .before .args in
+    let a = c .before .before .before .before .args in
     let l = c .before .loop in
-    let n = length (a .row .now) in
-    is-tabulate (λ (m : ℕ). cond (a .others && getD (a .kept .now) m false) 0 (c .before .before .drop-code .result)) 0 (l .row) n (l .inv .1 .0) (λ m h. l .inv .1 .1 m (omega arith))
-    ∙ ap (λ (code : ℕ). tabulate n (λ (m : ℕ). cond (a .others && getD (a .kept .now) m false) 0 code)) (c .before .before .drop-code .ensures)
+    is-tabulate (λ (m : ℕ). joined (a .others) (getD (a .zs .now) m 0)) 0 (l .row) (length (a .row .now)) (l .inv .1 .0) (λ m h. l .inv .1 .1 m (omega arith))
 
 pub cover-row-spec : {M : Type 1} → statement M
 cover-row-spec =
@@ -63,10 +56,9 @@ cover-row-spec =
     (tie.spec
     Inv-loop
     μ-loop
-    drop-code-requires
     loop-holds
-    shared-slice-read-code-of
-    code-of-requires
+    shared-slice-read-join
+    join-requires
     slice-write-row
     add-k
     loop-less

@@ -9,7 +9,7 @@ write-values-requires : tie.Need-write-values-requires
 write-values-requires c κs = let p = c .before .before .before .before .before .before .pre in (p .admitted, p .room)
 
 write-codes-requires : tie.Need-write-codes-requires
-write-codes-requires c κs = let p = c .before .before .before .before .before .before .before .before .before .before .before .before .pre in (p .codes, (p .admitted .y .short, (p .admitted .some, p .admitted .z .short)))
+write-codes-requires c κs = let p = c .before .before .before .before .before .before .before .before .before .before .before .before .pre in (p .admitted .order, (p .codes, (p .admitted .x .short, (p .admitted .y .short, (p .admitted .some, p .admitted .z .short)))))
 
 same-length : tie.Need-same-length
 same-length c = search needs

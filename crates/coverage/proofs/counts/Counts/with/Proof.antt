@@ -1,4 +1,4 @@
--- `resample::counts::Counts::with` meets its contract.
+-- `coverage::counts::Counts::with` meets its contract.
 use borrow.Author.Tests.{eq-eqb, ne-eqb}
 use Rattle.coverage.specs.Coverage.{withCode}
 use borrow.Author.Needs.{needs}
@@ -14,6 +14,9 @@ add-self-2 c = search needs
 add-self-3 : tie.Need-add-self-3
 add-self-3 c = search needs
 
+add-self-4 : tie.Need-add-self-4
+add-self-4 c = search needs
+
 returns : tie.Need-returns
 unfolding withCode
 returns c = simp (eq-eqb _ _ (c .before .if1 .taken))
@@ -24,7 +27,11 @@ returns-2 c = simp (ne-eqb _ _ (c .before .before .if1 .left), eq-eqb _ _ (c .be
 
 returns-3 : tie.Need-returns-3
 unfolding withCode
-returns-3 c = simp (ne-eqb _ _ (c .before .before .if1 .left), ne-eqb _ _ (c .before .if2 .left))
+returns-3 c = simp (ne-eqb _ _ (c .before .before .before .if1 .left), ne-eqb _ _ (c .before .before .if2 .left), eq-eqb _ _ (c .before .if3 .taken))
+
+returns-4 : tie.Need-returns-4
+unfolding withCode
+returns-4 c = simp (ne-eqb _ _ (c .before .before .before .if1 .left), ne-eqb _ _ (c .before .before .if2 .left), ne-eqb _ _ (c .before .if3 .left))
 
 pub with-spec : {M : Type 1} → statement M
-with-spec = tie.close (tie.spec add-self add-self-2 add-self-3 returns returns-2 returns-3)
+with-spec = tie.close (tie.spec add-self add-self-2 add-self-3 add-self-4 returns returns-2 returns-3 returns-4)
