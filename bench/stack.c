@@ -15,7 +15,7 @@ enum { STACK = 4 << 20, PAINT = 0xA5 };
 
 static double input[VOXELS], output[VOXELS], work[WORK];
 static uint8_t coverage[VOXELS];
-static uint64_t counts[3];
+static uint64_t counts[VURELIKA_CODES];
 
 struct call {
     const char *name;
@@ -27,14 +27,16 @@ struct call {
 static uint32_t shift(const struct call *call)
 {
     return vurelika_shift(NEAR, NEAR, FAR, 0.3, -0.4, 1.4, call->order, call->prefilter, call->mode, 0.0,
-                          input, VOXELS, output, VOXELS, coverage, VOXELS, work, WORK, counts, 3);
+                          input, VOXELS, output, VOXELS, coverage, VOXELS, work, WORK, counts,
+                          VURELIKA_CODES);
 }
 
 /* By factors that leave the lengths as they are. */
 static uint32_t zoom(const struct call *call)
 {
     return vurelika_zoom(NEAR, NEAR, FAR, 1.1, 0.9, 1.0, call->order, call->prefilter, call->mode, 0.0,
-                         input, VOXELS, output, VOXELS, coverage, VOXELS, work, WORK, counts, 3);
+                         input, VOXELS, output, VOXELS, coverage, VOXELS, work, WORK, counts,
+                         VURELIKA_CODES);
 }
 
 static uint32_t filter(const struct call *call)

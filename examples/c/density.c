@@ -10,11 +10,11 @@ enum { D0 = 20, D1 = 30, D2 = 40, VOXELS = D0 * D1 * D2 };
 
 static double input[VOXELS], output[VOXELS];
 static uint8_t coverage[VOXELS];
-static uint64_t counts[3];
+static uint64_t counts[VURELIKA_CODES];
 
 static const char *const modes[] = {"Constant", "Mirror", "Nearest", "Reflect", "Wrap"};
 
-/* The mean of the voxels that were computed. There must be one. */
+/* The mean of the voxels of code 0. There must be one. */
 static double mean_density(void)
 {
     double sum = 0.0;
@@ -40,15 +40,17 @@ int main(void)
     for (size_t i = 0; i < VOXELS; i++)
         input[i] = 10.0 * (double)(i / (D1 * D2));
 
-    puts("mode      computed  filled  defaulted  mean of code 0  mean of all");
+    puts("mode      computed  filled  defaulted  folded  mean of code 0  mean of all");
     for (uint32_t mode = VURELIKA_CONSTANT; mode <= VURELIKA_WRAP; mode++) {
         uint32_t refusal = vurelika_shift(D0, D1, D2, 13.5, 0.0, 0.0, 1, 0, mode, 0.0, input, VOXELS,
-                                          output, VOXELS, coverage, VOXELS, NULL, 0, counts, 3);
+                                          output, VOXELS, coverage, VOXELS, NULL, 0, counts,
+                                          VURELIKA_CODES);
 
         if (refusal != VURELIKA_DONE)
             return 1;
-        printf("%-8s%10" PRIu64 "%8" PRIu64 "%11" PRIu64 "%16g%13g\n", modes[mode], counts[0], counts[1],
-               counts[2], mean_density(), mean_of_all());
+        printf("%-8s%10" PRIu64 "%8" PRIu64 "%11" PRIu64 "%8" PRIu64 "%16g%13g\n", modes[mode],
+               counts[VURELIKA_COMPUTED], counts[VURELIKA_FILLED], counts[VURELIKA_DEFAULTED],
+               counts[VURELIKA_FOLDED], mean_density(), mean_of_all());
     }
     return 0;
 }

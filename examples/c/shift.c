@@ -1,5 +1,6 @@
 /* A first program over the library: shifts a small volume, and says of each voxel that comes out
- * whether it was computed from the input or filled. host/build-c builds it, host/run runs it. */
+ * whether it was computed from the input, blends in a folded neighbour, or was filled. host/build-c builds
+ * it, host/run runs it. */
 #include <inttypes.h>
 #include <stdio.h>
 
@@ -16,7 +17,7 @@ static const double input[VOXELS] = {
 /* All that a call writes is lent to it, and it allocates nothing. */
 static double output[VOXELS];
 static uint8_t coverage[VOXELS];
-static uint64_t counts[3];
+static uint64_t counts[VURELIKA_CODES];
 
 /* Shifts the volume along its last axis, order 1; what comes from outside is filled with -1. Gives 0,
  * or the number of a refusal, which vurelika.h explains. */
@@ -28,10 +29,11 @@ static uint32_t shift(double by)
 
     /* without prefilter no work is needed: vurelika_work_count says how much otherwise */
     return vurelika_shift(D0, D1, D2, 0.0, 0.0, by, order, prefilter, VURELIKA_CONSTANT, fill,
-                          input, VOXELS, output, VOXELS, coverage, VOXELS, NULL, 0, counts, 3);
+                          input, VOXELS, output, VOXELS, coverage, VOXELS, NULL, 0, counts,
+                          VURELIKA_CODES);
 }
 
-/* Lane by lane: four values, and their codes (0 computed, 1 filled). */
+/* Lane by lane: four values, and their codes (0 computed, 1 filled, 3 computed with a folded neighbour). */
 static void print_volume(void)
 {
     for (size_t i = 0; i < VOXELS; i += D2) {
@@ -42,8 +44,9 @@ static void print_volume(void)
             printf(" %u", coverage[i + z]);
         putchar('\n');
     }
-    printf("computed %" PRIu64 ", filled %" PRIu64 ", defaulted %" PRIu64 "\n", counts[0], counts[1],
-           counts[2]);
+    printf("computed %" PRIu64 ", filled %" PRIu64 ", defaulted %" PRIu64 ", folded %" PRIu64 "\n",
+           counts[VURELIKA_COMPUTED], counts[VURELIKA_FILLED], counts[VURELIKA_DEFAULTED],
+           counts[VURELIKA_FOLDED]);
 }
 
 int main(void)

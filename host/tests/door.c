@@ -5,38 +5,63 @@
 #include "vurelika.h"
 
 enum { D = 2, VOXELS = D * D * D, NO_MODE = 5, PAINT = 77 };
+enum { FEWER = VURELIKA_CODES - 1, MORE = VURELIKA_CODES + 1 };
 
 static const double input[VOXELS];
 static double output[VOXELS];
 static uint8_t coverage[VOXELS];
-static uint64_t counts[4];
+static uint64_t counts[MORE];
 
 /* A shift of a small volume by 0 with so many places of counts, which are painted before. */
 static uint32_t shift(size_t order, uint32_t mode, size_t counts_len)
 {
-    for (size_t i = 0; i < 4; i++)
+    for (size_t i = 0; i < MORE; i++)
         counts[i] = PAINT;
     return vurelika_shift(D, D, D, 0.0, 0.0, 0.0, order, 0, mode, 0.0, input, VOXELS, output, VOXELS,
                           coverage, VOXELS, NULL, 0, counts, counts_len);
 }
 
-/* Whether counts begins with three of these and is left alone after them. */
-static int has(uint64_t computed, uint64_t others)
+/* Whether counts begins with these four and is left alone after them. */
+static int has(uint64_t computed, uint64_t filled, uint64_t defaulted, uint64_t folded)
 {
-    return counts[0] == computed && counts[1] == others && counts[2] == others && counts[3] == PAINT;
+    return counts[VURELIKA_COMPUTED] == computed && counts[VURELIKA_FILLED] == filled
+           && counts[VURELIKA_DEFAULTED] == defaulted && counts[VURELIKA_FOLDED] == folded
+           && counts[VURELIKA_CODES] == PAINT;
+}
+
+static int left_alone(void)
+{
+    return has(PAINT, PAINT, PAINT, PAINT);
+}
+
+/* Whether every voxel bears the code. */
+static int all_bear(uint8_t code)
+{
+    for (size_t i = 0; i < VOXELS; i++)
+        if (coverage[i] != code)
+            return 0;
+    return 1;
 }
 
 int main(void)
 {
-    hold(shift(1, VURELIKA_MIRROR, 3) == VURELIKA_DONE && has(VOXELS, 0), "counts has three places");
-    hold(shift(9, VURELIKA_MIRROR, 3) == VURELIKA_ORDER && has(0, 0), "a refusal makes counts 0, 0, 0");
-    hold(shift(1, VURELIKA_MIRROR, 2) == VURELIKA_BUFFER && has(PAINT, PAINT)
-             && shift(1, VURELIKA_MIRROR, 4) == VURELIKA_BUFFER && has(PAINT, PAINT),
+    hold(shift(1, VURELIKA_MIRROR, VURELIKA_CODES) == VURELIKA_DONE && has(VOXELS, 0, 0, 0)
+             && all_bear(VURELIKA_COMPUTED),
+         "counts has four places; at order 1 the neighbour outside has weight 0");
+    hold(shift(2, VURELIKA_MIRROR, VURELIKA_CODES) == VURELIKA_DONE && has(0, 0, 0, VOXELS)
+             && all_bear(VURELIKA_FOLDED),
+         "at order 2 every voxel of 2 by 2 by 2 has a folded neighbour");
+    hold(shift(9, VURELIKA_MIRROR, VURELIKA_CODES) == VURELIKA_ORDER && has(0, 0, 0, 0),
+         "a refusal makes counts 0, 0, 0, 0");
+    hold(shift(1, VURELIKA_MIRROR, FEWER) == VURELIKA_BUFFER && left_alone()
+             && shift(1, VURELIKA_MIRROR, MORE) == VURELIKA_BUFFER && left_alone(),
          "counts of another length is refusal 7, and left alone");
-    hold(shift(9, VURELIKA_MIRROR, 2) == VURELIKA_ORDER, "which an earlier refusal comes before");
-    hold(shift(9, NO_MODE, 3) == VURELIKA_MODE && has(0, 0), "255 comes first, and makes counts 0, 0, 0");
-    hold(shift(9, NO_MODE, 2) == VURELIKA_MODE && has(PAINT, PAINT)
-             && shift(9, NO_MODE, 4) == VURELIKA_MODE && has(PAINT, PAINT),
+    hold(shift(9, VURELIKA_MIRROR, FEWER) == VURELIKA_ORDER && left_alone(),
+         "which an earlier refusal comes before");
+    hold(shift(9, NO_MODE, VURELIKA_CODES) == VURELIKA_MODE && has(0, 0, 0, 0),
+         "255 comes first, and makes counts 0, 0, 0, 0");
+    hold(shift(9, NO_MODE, FEWER) == VURELIKA_MODE && left_alone()
+             && shift(9, NO_MODE, MORE) == VURELIKA_MODE && left_alone(),
          "with 255 counts of another length is left alone");
     hold(vurelika_spline_filter(0, 0, 0, 9, NO_MODE, 0.0, NULL, 0, NULL, 0) == VURELIKA_MODE
              && vurelika_spline_filter1d(0, 0, 0, 9, 3, NO_MODE, 0.0, NULL, 0, NULL, 0) == VURELIKA_MODE,
@@ -44,7 +69,7 @@ int main(void)
 
     hold(vurelika_work_count(4096, 4096, 4096, 3, 1, VURELIKA_MIRROR) == (size_t)1 << 36
              && vurelika_shift(4096, 4096, 4096, 0.0, 0.0, 0.0, 3, 1, VURELIKA_MIRROR, 0.0, NULL, 0, NULL, 0,
-                               NULL, 0, NULL, 0, counts, 3) == VURELIKA_COUNT,
+                               NULL, 0, NULL, 0, counts, VURELIKA_CODES) == VURELIKA_COUNT,
          "the work of 4,096^3 is 2^36 places, and its call refusal 6");
     hold(vurelika_work_count(D, D, D, 1, 1, VURELIKA_MIRROR) == 0
              && vurelika_work_count(D, D, D, 3, 0, VURELIKA_MIRROR) == 0,

@@ -36,12 +36,12 @@ static void hold_shift(double by, size_t filled, size_t first, const char *what)
 {
     static double input[VOXELS], output[VOXELS];
     static uint8_t coverage[VOXELS];
-    uint64_t counts[3];
+    uint64_t counts[VURELIKA_CODES];
 
     for (uint64_t bits = 1; bits <= VOXELS; bits++)
         memcpy(&input[bits - 1], &bits, sizeof bits);
     uint32_t answer = vurelika_shift(D0, D1, D2, by, 0.0, 0.0, 1, 0, VURELIKA_CONSTANT, -1.0, input, VOXELS,
-                                     output, VOXELS, coverage, VOXELS, NULL, 0, counts, 3);
+                                     output, VOXELS, coverage, VOXELS, NULL, 0, counts, VURELIKA_CODES);
     size_t kept = VOXELS - filled * PLANE;
 
     hold(answer == VURELIKA_DONE && counts[0] == kept && counts[1] == filled * PLANE

@@ -48,8 +48,9 @@ static void say_line(const char *name, const double *values, const uint8_t *code
     if (counts == NULL)
         printf("%-27s%-22s%s\n", name, numbers, marks);
     else
-        printf("%-27s%-22s%-15s%9" PRIu64 "%8" PRIu64 "%11" PRIu64 "\n", name, numbers, marks, counts[0],
-               counts[1], counts[2]);
+        printf("%-27s%-22s%-15s%9" PRIu64 "%8" PRIu64 "%11" PRIu64 "%8" PRIu64 "\n", name, numbers, marks,
+               counts[VURELIKA_COMPUTED], counts[VURELIKA_FILLED], counts[VURELIKA_DEFAULTED],
+               counts[VURELIKA_FOLDED]);
 }
 
 /* The first lane with the counts, then each lane that is not like the one before it. */
@@ -74,7 +75,7 @@ int main(void)
 {
     double volume[VOXELS], output[ROOM];
     uint8_t coverage[ROOM];
-    uint64_t counts[3];
+    uint64_t counts[VURELIKA_CODES];
 
     for (size_t i = 0; i < VOXELS; i++)
         volume[i] = 10.0 * (double)(i % LENGTH + 1);
@@ -82,9 +83,10 @@ int main(void)
     puts("A volume of 2 by 2 by 4 voxels, each lane of the last axis 10 20 30 40, is resampled: at order 1\n"
          "unless said, and shifted on the last axis where there is one number. All lanes that come out are\n"
          "alike, unless a second line says from where on they differ.\n"
-         "Codes: 0 computed, 1 filled, 2 defaulted to 0.0.\n");
-    printf("%-28s%-22s%-15s%8s%8s%11s\n", "request", "lane", "codes", "computed", "filled",
-           "defaulted");
+         "Codes: 0 computed, 1 filled, 2 defaulted to 0.0, 3 computed with a neighbour that lay outside and\n"
+         "was folded back.\n");
+    printf("%-28s%-22s%-15s%8s%8s%11s%8s\n", "request", "lane", "codes", "computed", "filled", "defaulted",
+           "folded");
     for (size_t i = 0; i < sizeof requests / sizeof requests[0]; i++) {
         const struct request *r = &requests[i];
         size_t places = PLANES * ROWS * r->length;
@@ -94,7 +96,7 @@ int main(void)
         /* orders 0 and 1 need no work */
         uint32_t refusal = r->resample(PLANES, ROWS, LENGTH, r->factors[0], r->factors[1], r->factors[2],
                                        r->order, 0, r->mode, -1.0, input, VOXELS, output, places,
-                                       coverage, places, NULL, 0, counts, 3);
+                                       coverage, places, NULL, 0, counts, VURELIKA_CODES);
         if (refusal == VURELIKA_DONE)
             say_volume(r->name, output, coverage, r->length, counts);
         else

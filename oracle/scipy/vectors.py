@@ -90,7 +90,7 @@ class File:
             [entry, *source.shape, *map(bits, factors), order, axis, int(prefilter), MODES.index(mode)]
             + [bits(FILL), self.place(source), source.size]
             + [output.size, output.size if resamples else 0, work]
-            + [0, 0, 0, 0, self.place(output), 0, 0, 0]
+            + [0, 0, 0, 0, 0, self.place(output), 0, 0, 0]
         )
 
     def write(self, path):

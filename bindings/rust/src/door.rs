@@ -27,7 +27,7 @@ impl Entry {
         let [d0, d1, d2] = request.dims;
         let [f0, f1, f2] = request.factors;
         let (mode, fill) = mode_and_fill(request.mode);
-        let mut counts = [0; 3];
+        let mut counts = [0; c::VURELIKA_CODES];
         // SAFETY: each pointer goes with the length of its slice, and Rust's borrows keep the slices
         // that are written apart from each other and from the input.
         let status = unsafe {
@@ -55,11 +55,12 @@ impl Entry {
             )
         };
         Refusal::check(status)?;
-        let [computed, filled, defaulted] = counts;
+        let [computed, filled, defaulted, folded] = counts;
         Ok(Counts {
             computed,
             filled,
             defaulted,
+            folded,
         })
     }
 }

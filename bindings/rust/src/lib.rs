@@ -1,5 +1,5 @@
-//! Resampling of volumes of `f64` on three axes, in which each output voxel is marked as computed or
-//! filled: a safe layer over the proved library `libvurelika.a`.
+//! Resampling of volumes of `f64` on three axes, in which each output voxel is marked as computed,
+//! computed with a folded neighbour, or filled: a safe layer over the proved library `libvurelika.a`.
 //!
 //! A volume is a flat slice, last index fastest; [`npy`] reads and writes it as NumPy's files have it. A
 //! call ends in success or in a [refusal](Refusal), whatever numbers and slices it is given; it does not
@@ -23,7 +23,7 @@
 //! assert_eq!(moved.coverage[..4], [FILLED, COMPUTED, COMPUTED, COMPUTED]);
 //! assert_eq!((moved.counts.computed, moved.counts.filled), (12, 4));
 //!
-//! // A density is that of the voxels that were computed; in Constant these come from inside the scan.
+//! // A density is that of the voxels of code 0; in Constant these come from inside the scan alone.
 //! let marked = moved.voxels.iter().zip(&moved.coverage);
 //! let sum: f64 = marked.filter(|(_, &code)| code == COMPUTED).map(|(voxel, _)| voxel).sum();
 //! assert_eq!(sum / moved.counts.computed as f64, 20.0);
@@ -37,13 +37,14 @@ mod refusal;
 use door::Entry;
 pub use refusal::Refusal;
 
-/// The code of a voxel that was computed from input voxels.
+/// The code of a voxel that was computed from voxels of the scan, each in its own place.
 ///
 /// In mode Constant its place lay in the scan: on each axis from 0 up to, not including, the length. In
 /// the other modes this code does not say so: a place beyond the scan is folded back into it and
-/// computed there. After a shift by 13.5 on an axis of 20, 14 planes come from before the scan: Constant
-/// calls 6 of the 20 computed, Nearest 7, and Mirror, Reflect and Wrap all of them. In every mode a voxel
-/// near an edge may blend in a neighbour that was folded back. So for a density choose Constant.
+/// computed there, and that is not remarked. After a shift by 13.5 on an axis of 20, 14 planes come from
+/// before the scan. At order 1 Constant gives this code to 6 of the 20, Nearest to 6, with [`FOLDED`] at
+/// one more, Reflect to 19, with [`FOLDED`] at one, and Mirror and Wrap to all of them. So for a density
+/// choose Constant, and count the voxels of this code alone.
 pub const COMPUTED: u8 = 0;
 
 /// The code of a voxel outside, in mode Constant: it holds the fill, bit for bit.
@@ -51,6 +52,28 @@ pub const FILLED: u8 = 1;
 
 /// The code of a voxel outside, in another mode: it holds 0.0.
 pub const DEFAULTED: u8 = 2;
+
+/// The code of a voxel that was computed, but on some axis a neighbour with a weight other than 0 lay
+/// outside the scan and was folded back: it blends in a voxel that stands elsewhere.
+///
+/// As with [`COMPUTED`], in mode Constant alone its place lay in the scan. At order 0 there is none.
+///
+/// ```
+/// # use vurelika::{shift, BorderMode, Request, COMPUTED, FOLDED};
+/// let request = Request {
+///     dims: [2, 2, 4],
+///     factors: [0.0, 0.0, -0.5],
+///     order: 1,
+///     prefilter: false,
+///     mode: BorderMode::Constant(-1.0),
+/// };
+/// let half = shift(&request, &[10.0, 20.0, 30.0, 40.0].repeat(4))?;
+/// assert_eq!(half.voxels[..4], [15.0, 25.0, 35.0, 35.0]);
+/// assert_eq!(half.coverage[..4], [COMPUTED, COMPUTED, COMPUTED, FOLDED]);
+/// assert_eq!((half.counts.computed, half.counts.folded), (12, 4));
+/// # Ok::<(), vurelika::Refusal>(())
+/// ```
+pub const FOLDED: u8 = 3;
 
 /// What a coordinate outside the volume stands for.
 #[derive(Clone, Copy, Debug, PartialEq)]
@@ -152,6 +175,8 @@ pub struct Counts {
     pub filled: u64,
     /// Voxels with the code [`DEFAULTED`].
     pub defaulted: u64,
+    /// Voxels with the code [`FOLDED`].
+    pub folded: u64,
 }
 
 /// A volume as a file holds it.
@@ -285,7 +310,7 @@ pub fn shift_into(
 /// let mut work = vec![f64::NAN; sizes.work];
 /// let counts = zoom_into(&request, &[0.0; 12], &mut output, &mut coverage, &mut work)?;
 /// assert_eq!(output, [0.0; 8]);
-/// assert_eq!(counts.computed, 8);
+/// assert_eq!(counts.folded, 8); // on axes of 2 order 2 always has a neighbour outside
 /// # Ok::<(), vurelika::Refusal>(())
 /// ```
 pub fn zoom_into(

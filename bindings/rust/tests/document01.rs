@@ -1,8 +1,8 @@
-//! Document 01's numbers to hold to.
+//! Document 01's numbers to hold to, their codes as document 02's #103 has them, and its own lines.
 
 use vurelika::{
     shift, spline_filter1d, zoom, BorderMode, Counts, Refusal, Request, Resampled, COMPUTED,
-    DEFAULTED, FILLED,
+    DEFAULTED, FILLED, FOLDED,
 };
 
 const LANE: [f64; 4] = [10.0, 20.0, 30.0, 40.0];
@@ -37,6 +37,7 @@ fn assert_counted(resampled: &Resampled) {
         computed: bearing(COMPUTED),
         filled: bearing(FILLED),
         defaulted: bearing(DEFAULTED),
+        folded: bearing(FOLDED),
     };
     assert_eq!(resampled.counts, counts);
 }
@@ -49,7 +50,7 @@ fn constant() -> Result<(), Refusal> {
     assert_lanes(&back, &[10.0, 20.0, 30.0, -1.0], &[0, 0, 0, 1]);
 
     let half = shift_last(-0.5, 1, CONSTANT)?;
-    assert_lanes(&half, &[15.0, 25.0, 35.0, 35.0], &[0, 0, 0, 0]);
+    assert_lanes(&half, &[15.0, 25.0, 35.0, 35.0], &[0, 0, 0, 3]);
     let nearest_voxel = shift_last(0.5, 0, CONSTANT)?;
     assert_lanes(&nearest_voxel, &[-1.0, 20.0, 30.0, 40.0], &[1, 0, 0, 0]);
     assert_eq!(shift_last(-0.5, 0, CONSTANT), Err(Refusal::Beside));
@@ -61,12 +62,48 @@ fn other_modes() -> Result<(), Refusal> {
     let right = shift_last(2.0, 1, BorderMode::Nearest)?;
     assert_lanes(&right, &[0.0, 0.0, 10.0, 20.0], &[2, 2, 0, 0]);
     let left = shift_last(-2.0, 1, BorderMode::Nearest)?;
-    assert_lanes(&left, &[30.0, 40.0, 40.0, 40.0], &[0, 0, 0, 0]);
+    assert_lanes(&left, &[30.0, 40.0, 40.0, 40.0], &[0, 0, 3, 3]);
     // Mirror folds -1 to 1, and Wrap, as the document's table has it, to 2.
     let mirrored = shift_last(1.0, 1, BorderMode::Mirror)?;
     assert_lanes(&mirrored, &[20.0, 10.0, 20.0, 30.0], &[0, 0, 0, 0]);
     let wrapped = shift_last(1.0, 1, BorderMode::Wrap)?;
     assert_lanes(&wrapped, &[30.0, 10.0, 20.0, 30.0], &[0, 0, 0, 0]);
+    Ok(())
+}
+
+/// A folded neighbour is remarked, a folded coordinate is not.
+#[test]
+fn folded_neighbours() -> Result<(), Refusal> {
+    let reflected = shift_last(0.5, 1, BorderMode::Reflect)?;
+    assert_lanes(&reflected, &[10.0, 15.0, 25.0, 35.0], &[3, 0, 0, 0]);
+    let mirrored = shift_last(0.5, 1, BorderMode::Mirror)?;
+    assert_lanes(&mirrored, &[15.0, 15.0, 25.0, 35.0], &[0, 0, 0, 0]);
+    let nearest = shift_last(0.25, 1, BorderMode::Nearest)?;
+    assert_lanes(&nearest, &[10.0, 17.5, 27.5, 37.5], &[3, 0, 0, 0]);
+    Ok(())
+}
+
+/// The codes along the last axis of 7, in the middle of the other two. At whole coordinates order 1
+/// gives its second neighbour the weight 0; order 3 gives its last 2^-53, which is not 0.
+#[test]
+fn codes_of_a_volume_that_is_not_moved() -> Result<(), Refusal> {
+    for (order, codes) in [
+        (0, [0; 7]),
+        (1, [0; 7]),
+        (2, [3, 0, 0, 0, 0, 0, 3]),
+        (3, [3, 0, 0, 0, 0, 3, 3]),
+        (4, [3, 3, 0, 0, 0, 3, 3]),
+        (5, [3, 3, 0, 0, 0, 3, 3]),
+    ] {
+        let r = Request {
+            dims: [7; 3],
+            ..request([0.0; 3], order, BorderMode::Nearest)
+        };
+        let still = shift(&r, &[7.0; 343])?;
+        let lane = (3 * 7 + 3) * 7;
+        assert_eq!(still.coverage[lane..lane + 7], codes, "order {order}");
+        assert_counted(&still);
+    }
     Ok(())
 }
 

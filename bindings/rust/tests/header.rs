@@ -1,6 +1,7 @@
 //! What the crate repeats: the names and numbers of include/vurelika.h, and the words of the launcher.
 
-use vurelika::{Refusal, COMPUTED, DEFAULTED, FILLED};
+use vurelika::{Refusal, COMPUTED, DEFAULTED, FILLED, FOLDED};
+use vurelika_sys::VURELIKA_CODES;
 
 const HEADER: &str = include_str!("../../../include/vurelika.h");
 const WORDS: &str = include_str!("../../../host/vurelika/common/refusal.c");
@@ -34,19 +35,25 @@ fn names_and_numbers() {
         ("COMPUTED", COMPUTED),
         ("FILLED", FILLED),
         ("DEFAULTED", DEFAULTED),
+        ("FOLDED", FOLDED),
     ];
+    assert_eq!(codes.len(), VURELIKA_CODES);
     expected.extend(codes.map(|(name, code)| (name.into(), code.into())));
     let members: Vec<_> = HEADER.lines().filter_map(member).collect();
     assert_eq!(members, expected);
 }
 
 #[test]
-fn version() {
-    let line = format!("#define VURELIKA_VERSION \"{}\"", env!("CARGO_PKG_VERSION"));
-    assert!(
-        HEADER.lines().any(|l| l == line),
-        "vurelika.h has no {line}"
-    );
+fn definitions() {
+    for line in [
+        format!("#define VURELIKA_VERSION \"{}\"", env!("CARGO_PKG_VERSION")),
+        format!("#define VURELIKA_CODES {VURELIKA_CODES}"),
+    ] {
+        assert!(
+            HEADER.lines().any(|l| l == line),
+            "vurelika.h has no {line}"
+        );
+    }
 }
 
 /// The launcher's meaning of each refusal, and no refusal that one of the two lacks.

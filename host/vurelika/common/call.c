@@ -1,13 +1,11 @@
 #include "call.h"
 
-#include "vurelika.h"
-
 uint32_t call(const struct request *r, const size_t lengths[3], struct lent *lent)
 {
     return r->entry->resample(lengths[0], lengths[1], lengths[2], r->factors[0], r->factors[1], r->factors[2],
                               r->order, r->prefilter, r->mode, r->fill, lent->input, lent->input_len,
                               lent->output, lent->output_len, lent->coverage, lent->output_len, lent->work,
-                              lent->work_len, lent->counts, 3);
+                              lent->work_len, lent->counts, VURELIKA_CODES);
 }
 
 void output_lengths(const struct request *r, const size_t lengths[3], size_t out[3])

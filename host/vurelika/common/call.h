@@ -3,6 +3,7 @@
 #define VURELIKA_CALL_H
 
 #include "request.h"
+#include "vurelika.h"
 
 /* What is lent to a call; all empty, the answer is one of the refusals 1 to 6, or VURELIKA_BUFFER. */
 struct lent {
@@ -13,7 +14,7 @@ struct lent {
     size_t output_len; /* of both */
     double *work;
     size_t work_len;
-    uint64_t counts[3];
+    uint64_t counts[VURELIKA_CODES];
 };
 
 /* The library's answer for a volume of these lengths. */

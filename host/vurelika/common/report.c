@@ -5,8 +5,11 @@
 
 #include "vurelika.h"
 
-static const char *const names[] = {
-    [VURELIKA_COMPUTED] = "computed", [VURELIKA_FILLED] = "filled", [VURELIKA_DEFAULTED] = "defaulted",
+static const char *const names[VURELIKA_CODES] = {
+    [VURELIKA_COMPUTED] = "computed",
+    [VURELIKA_FILLED] = "filled",
+    [VURELIKA_DEFAULTED] = "defaulted",
+    [VURELIKA_FOLDED] = "folded",
 };
 
 static void say_file(const struct report *report, const char *path, const char *things, size_t bytes)
@@ -16,11 +19,13 @@ static void say_file(const struct report *report, const char *path, const char *
 }
 
 /* A line for each code, with its share of all voxels. */
-static void say_counts(const uint64_t counts[3])
+static void say_counts(const uint64_t counts[VURELIKA_CODES])
 {
-    uint64_t all = counts[0] + counts[1] + counts[2];
+    uint64_t all = 0;
 
-    for (size_t code = 0; code < 3; code++)
+    for (size_t code = 0; code < VURELIKA_CODES; code++)
+        all += counts[code];
+    for (size_t code = 0; code < VURELIKA_CODES; code++)
         printf("code %zu, %s: %" PRIu64 " voxels, %.1f %%\n", code, names[code], counts[code],
                100.0 * (double)counts[code] / (double)all);
 }

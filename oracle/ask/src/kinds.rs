@@ -46,6 +46,7 @@ fn read(kind: &str, fields: &mut Fields) -> Result<Question, String> {
         "map_coordinates" => map_coordinates(fields),
         "build_splines" => build_splines(fields),
         "points" => points(fields),
+        "codes" => codes(fields),
         "round_ties_even" => round_ties_even(fields),
         "powi" => powi(fields),
         "constants" => constants_of_order(fields),
@@ -77,17 +78,21 @@ fn resample(fields: &mut Fields, entry: Entry, axes_of: AxesOf) -> Result<Questi
     Ok(Box::new(move |answer| {
         let out = entry(&data, factors, order, mode, prefilter);
         let axes = axes_of(dims, factors, order, mode, prefilter);
-        write_resampled(answer, &out, &probe::codes(&axes.points(order, mode), mode));
+        write_resampled(answer, &out, &axes.codes(order, mode));
     }))
 }
 
 fn write_resampled(answer: &mut Answer, out: &Array3<f64>, codes: &[u8]) {
     let count_of = |code| codes.iter().filter(|c| **c == code).count();
-    let digits: String = codes.iter().map(|c| char::from(b'0' + c)).collect();
     answer.word("dims").wholes(out.shape());
-    answer.word("counts").wholes(&[0, 1, 2].map(count_of));
-    answer.word("codes").word(digits);
+    answer.word("counts").wholes(&[0, 1, 2, 3].map(count_of));
+    write_codes(answer, codes);
     write_values(answer, out);
+}
+
+fn write_codes(answer: &mut Answer, codes: &[u8]) {
+    let digits: String = codes.iter().map(|c| char::from(b'0' + c)).collect();
+    answer.word("codes").word(digits);
 }
 
 fn write_volume(answer: &mut Answer, out: &Array3<f64>) {
@@ -197,8 +202,8 @@ fn build_splines(fields: &mut Fields) -> Result<Question, String> {
     }))
 }
 
-/// The table of one axis; the other two axes are left without output.
-fn points(fields: &mut Fields) -> Result<Question, String> {
+/// An axis; the other two are left without output.
+fn read_axis(fields: &mut Fields) -> Result<(Axes, usize, BorderMode<f64>), String> {
     let length = fields.whole("length")?;
     let axes = Axes {
         idim: [length; 3],
@@ -207,14 +212,27 @@ fn points(fields: &mut Fields) -> Result<Question, String> {
         shifts: [fields.float("shift")?; 3],
         nb_prepad: fields.whole("prepad")?,
     };
-    let order = fields.whole("order")?;
-    let mode = fields.mode()?;
+    Ok((axes, fields.whole("order")?, fields.mode()?))
+}
+
+/// The table of one axis.
+fn points(fields: &mut Fields) -> Result<Question, String> {
+    let (axes, order, mode) = read_axis(fields)?;
     Ok(Box::new(move |answer| {
         let [points, ..] = axes.points(order, mode);
         for (at, point) in points.iter().enumerate() {
             answer.word("at").word(at);
             write_point(answer, point);
         }
+    }))
+}
+
+/// The codes along one axis.
+fn codes(fields: &mut Fields) -> Result<Question, String> {
+    let (axes, order, mode) = read_axis(fields)?;
+    Ok(Box::new(move |answer| {
+        let [codes, ..] = axes.codes_along(order, mode);
+        write_codes(answer, &codes);
     }))
 }
 

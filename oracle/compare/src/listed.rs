@@ -1,5 +1,6 @@
 //! Requests that are always put: every entry, mode and order; the prefilter's cut-offs; the edges of
-//! the folds; zooms that round from a tie; the longest axes; each limit alone and in pairs.
+//! the folds; weights about 0; zooms that round from a tie; the longest axes; each limit alone and in
+//! pairs.
 
 use requests::plan::{Plan, Voxels, VOXELS};
 use requests::request::{Asked, Entry, CONSTANT, ENTRIES, MIRROR, MODES, NEAREST};
@@ -11,6 +12,7 @@ pub fn plans() -> Vec<Plan> {
     plans.extend(cut_offs());
     plans.extend(fold_edges());
     plans.extend(padded_edges());
+    plans.extend(weights_about_0());
     plans.extend(ties());
     plans.extend(longest());
     plans.extend(limits());
@@ -140,6 +142,37 @@ fn padded_edges() -> Vec<Plan> {
                     order as u64,
                 ));
             }
+        }
+    }
+    plans
+}
+
+/// Axes on which some voxels have all their neighbours inside at every order: moved to where the weight
+/// of an outermost neighbour is 0, or one float beside it; and zoomed so that the last coordinate is
+/// rounded above the last voxel.
+fn weights_about_0() -> Vec<Plan> {
+    let mut plans = Vec::new();
+    let modes = MODES.map(|mode| (mode, 0)).into_iter();
+    for (mode, prefilter) in modes.chain([(NEAREST, 1)]) {
+        for order in 0..=5 {
+            let of = |entry| Asked {
+                dims: [6, 7, 8],
+                prefilter,
+                mode,
+                ..plain(entry, order)
+            };
+            for size in [0.0, 0.25, 0.5, 1.0f64] {
+                for edge in [size, -size] {
+                    for shift in [edge.next_down(), edge, edge.next_up()] {
+                        let mut asked = of(Entry::Shift);
+                        asked.factors[order % 3] = shift;
+                        plans.push(Plan::of(asked, order as u64));
+                    }
+                }
+            }
+            let mut zoomed = of(Entry::Zoom);
+            zoomed.factors[2] = 3.25;
+            plans.push(Plan::of(zoomed, order as u64));
         }
     }
     plans

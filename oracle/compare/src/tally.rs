@@ -2,7 +2,7 @@
 
 use std::fmt;
 
-use requests::document::UNKNOWN_MODE;
+use requests::document::{CODES, UNKNOWN_MODE};
 use requests::outcome::Outcome;
 use requests::request::{Request, ENTRIES};
 
@@ -12,7 +12,7 @@ const ANSWERS: [u32; 11] = [0, 1, 2, 3, 4, 5, 6, 7, 8, 9, UNKNOWN_MODE];
 pub struct Tally {
     cases: [[usize; ANSWERS.len()]; ENTRIES.len()],
     voxels: usize,
-    codes: [u64; 3],
+    codes: [u64; CODES],
     work: usize,
 }
 
@@ -50,13 +50,13 @@ impl fmt::Display for Tally {
                 write!(f, "{count:8}")?;
             }
         }
-        let [computed, filled, defaulted] = self.codes;
+        let [computed, filled, defaulted, folded] = self.codes;
         write!(
             f,
-            "\n{} cases: {} voxels, {} codes ({computed} of 0, {filled} of 1, {defaulted} of 2), {} places of work; 0 differ",
+            "\n{} cases: {} voxels, {} codes ({computed} of 0, {filled} of 1, {defaulted} of 2, {folded} of 3), {} places of work; 0 differ",
             self.total(),
             self.voxels,
-            computed + filled + defaulted,
+            self.codes.iter().sum::<u64>(),
             self.work
         )
     }

@@ -5,7 +5,7 @@ pub use crate::interpolation::spline_filter::probe::{
     anticausal_start, causal_start, gain, lane, mirror_cutoff, poles,
 };
 pub use crate::interpolation::zoom_shift::probe::{
-    build_splines, codes, coefficients, map_coordinates, zoom_length, Axes, Point,
+    build_splines, coefficients, map_coordinates, zoom_length, Axes, Point,
 };
 
 /// The rounding of `zoom`'s output lengths.

@@ -1,5 +1,6 @@
 //! What the file promises to have: every entry, mode, order and flag carried out, shifts that drop some
-//! voxels and keep others, and every refusal of every entry.
+//! voxels and keep others, shifts and zooms that fold some voxels' neighbours and no others', and every
+//! refusal of every entry.
 
 use requests::request::{Entry, CONSTANT, ENTRIES, MODES, NEAREST, REFLECT};
 
@@ -15,18 +16,28 @@ pub fn check(calls: &[Answered]) -> Result<(), String> {
         }
         for mode in MODES {
             for order in orders(entry) {
+                let what = format!("mode {mode}, order {order}");
+                let is_of = |call: &Answered| {
+                    call.answer == 0 && (call.asked.mode, call.asked.order) == (mode, order)
+                };
+                let folds = entry.resamples() && order > 0;
+                if folds {
+                    let what = format!("{what}, codes 0 and 3");
+                    find(calls, entry, &what, |call| is_of(call) && folds_some(call))?;
+                }
                 for choice in choices(entry) {
-                    let what = format!("mode {mode}, order {order}, flag or axis {choice}");
-                    let is_it = |call: &Answered| {
-                        let asked = &call.asked;
-                        call.answer == 0
-                            && (asked.mode, asked.order) == (mode, order)
-                            && chosen(call) == choice
-                    };
+                    let what = format!("{what}, flag or axis {choice}");
+                    let is_it = |call: &Answered| is_of(call) && chosen(call) == choice;
                     find(calls, entry, &what, is_it)?;
                     if entry == Entry::Shift && DROPPING.contains(&mode) {
                         let what = format!("{what}, some voxels dropped");
                         find(calls, entry, &what, |call| is_it(call) && drops_some(call))?;
+                    }
+                    if folds {
+                        let what = format!("{what}, code 3");
+                        find(calls, entry, &what, |call| {
+                            is_it(call) && call.counts[3] > 0
+                        })?;
                     }
                 }
             }
@@ -72,8 +83,13 @@ fn chosen(call: &Answered) -> usize {
 }
 
 fn drops_some(call: &Answered) -> bool {
-    let [computed, filled, defaulted] = call.counts;
-    computed > 0 && filled + defaulted > 0
+    let [computed, filled, defaulted, folded] = call.counts;
+    computed + folded > 0 && filled + defaulted > 0
+}
+
+fn folds_some(call: &Answered) -> bool {
+    let [computed, _, _, folded] = call.counts;
+    computed > 0 && folded > 0
 }
 
 fn find(

@@ -2,6 +2,7 @@
 
 use std::collections::HashMap;
 
+use requests::document::CODES;
 use requests::expected;
 use requests::outcome::Outcome;
 use requests::plan::Plan;
@@ -50,7 +51,7 @@ pub struct Answered {
     pub asked: Asked,
     pub answer: u32,
     /// Zeros for the filters, which have none.
-    pub counts: [u64; 3],
+    pub counts: [u64; CODES],
 }
 
 /// Stretches of words, equal ones kept once.
@@ -83,7 +84,7 @@ impl Recording {
         let outcome =
             expected::outcome(request).map_err(|reason| format!("{reason}\n{request}"))?;
         let asked = request.asked;
-        let mut counts = [0; 3];
+        let mut counts = [0; CODES];
         if asked.entry.resamples() {
             counts.copy_from_slice(outcome.lent.counts.lent());
         }

@@ -1,5 +1,5 @@
-//! Requests that are carried out, but for some of order 0: every entry, mode, order and flag, and
-//! lengths about the prefilter's cut-offs.
+//! Requests that are carried out, but for some of order 0: every entry, mode, order and flag, lengths
+//! about the prefilter's cut-offs, and volumes in which some voxels bear 0 and others 3.
 
 use requests::document::LARGEST;
 use requests::plan::{Off, Plan, Voxels, VOXELS};
@@ -31,6 +31,8 @@ pub fn plans() -> Vec<Plan> {
     plans.extend(filtered());
     plans.extend(filtered_along_one());
     plans.extend(cut_offs());
+    plans.extend(unmoved());
+    plans.extend(rounded_up());
     plans
 }
 
@@ -137,6 +139,46 @@ fn cut_offs() -> Vec<Plan> {
                     plans.push(Plan::of(asked, 2));
                 }
             }
+        }
+    }
+    plans
+}
+
+/// Volumes that stay in place, just long enough that some voxels have all their neighbours inside.
+fn unmoved() -> Vec<Plan> {
+    let mut plans = Vec::new();
+    for mode in MODES {
+        for order in 2..=5 {
+            for (entry, still) in [(Entry::Shift, 0.0), (Entry::Zoom, 1.0)] {
+                let asked = Asked {
+                    dims: [order + 1; 3],
+                    factors: [still; 3],
+                    order,
+                    prefilter: 0,
+                    mode,
+                    ..sound(entry).asked
+                };
+                plans.push(Plan::of(asked, 3));
+            }
+        }
+    }
+    plans
+}
+
+/// At order 1 a zoom folds a neighbour only where the last coordinate is rounded above the last voxel.
+fn rounded_up() -> Vec<Plan> {
+    let mut plans = Vec::new();
+    for mode in MODES {
+        for prefilter in [0, 1] {
+            let asked = Asked {
+                dims: [2, 2, 8],
+                factors: [1.0, 1.0, 3.25],
+                order: 1,
+                prefilter,
+                mode,
+                ..sound(Entry::Zoom).asked
+            };
+            plans.push(Plan::of(asked, 3));
         }
     }
     plans

@@ -1,5 +1,6 @@
 //! Document 01 in plain Rust: the lengths of buffers, and the number that a request is answered
-//! with. The fold alone is the Rust's own, as document 01 has it.
+//! with; the counts are four since document 02's #103. The fold alone is the Rust's own, as document 01
+//! has it.
 
 use ndarray_ndimage::probe::map_coordinates;
 use ndarray_ndimage::BorderMode;
@@ -12,6 +13,8 @@ const MOST_PLACES: usize = 1 << 27;
 pub const LARGEST: f64 = (1u128 << 100) as f64;
 /// The size that a shift stays below.
 pub const FARTHEST: f64 = (1 << 20) as f64;
+/// How many codes there are, and places of the counts.
+pub const CODES: usize = 4;
 /// The answer to a mode that is none of the five.
 pub const UNKNOWN_MODE: u32 = 255;
 
@@ -77,7 +80,7 @@ fn buffer_refused(request: &Request) -> bool {
     request.input.len() != count(asked.dims)
         || lent.output != voxels
         || asked.entry.resamples()
-            && (lent.coverage != voxels || lent.work < asked.needed() || lent.counts != 3)
+            && (lent.coverage != voxels || lent.work < asked.needed() || lent.counts != CODES)
 }
 
 fn value_refused(Request { asked, input, .. }: &Request) -> bool {

@@ -1,6 +1,6 @@
 //! What a call must leave: document 01 says which number, the Rust says which values.
 
-use crate::document;
+use crate::document::{self, CODES};
 use crate::lent::Lent;
 use crate::outcome::Outcome;
 use crate::request::Request;
@@ -22,7 +22,7 @@ pub fn outcome(request: &Request) -> Result<Outcome, String> {
         }
         _ => {}
     }
-    if status != 0 && asked.entry.resamples() && request.lengths.counts == 3 {
+    if status != 0 && asked.entry.resamples() && request.lengths.counts == CODES {
         lent.counts.lent_mut().fill(0);
     }
     Ok(Outcome {

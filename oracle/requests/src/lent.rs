@@ -61,7 +61,7 @@ pub struct Lent {
 
 impl Lent {
     /// The request's buffers before a call. No call writes the marks: these floats are no numbers,
-    /// no count is so large, and no code is above 2. They differ from buffer to buffer, so that a
+    /// no count is so large, and no code is above 3. They differ from buffer to buffer, so that a
     /// guard copied to a guard would show.
     pub fn new(request: &Request) -> Lent {
         let floats = |tag: u64| move |place: usize| (0x7ffc + tag) << 48 | place as u64;

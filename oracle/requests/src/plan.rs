@@ -3,7 +3,7 @@
 
 use shared::Seeded;
 
-use crate::document::{count, LARGEST};
+use crate::document::{count, CODES, LARGEST};
 use crate::request::{Asked, Lengths, Request};
 
 /// A buffer that would be longer is lent as short as `SHORT`, so that a request beyond refusal 6 is
@@ -112,7 +112,7 @@ impl Plan {
                 output: lent(outputs, self.off.output),
                 coverage: lent(outputs, self.off.coverage),
                 work: lent(asked.needed(), self.off.work),
-                counts: lent(3, self.off.counts),
+                counts: lent(CODES, self.off.counts),
             },
         }
     }

@@ -83,7 +83,7 @@ pub const SPOILS: &[Spoil] = &[
     |p| p.off.work += 1,
     |p| p.off.counts -= 1,
     |p| p.off.counts += 1,
-    |p| p.off.counts -= 3,
+    |p| p.off.counts -= 4,
     |p| p.off.output -= isize::MAX,
     |p| p.asked.prefilter = 0,
     // 8

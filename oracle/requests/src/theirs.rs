@@ -1,7 +1,7 @@
-//! The Rust: its values, the codes off its own tables of dropped indices, and its coefficients.
+//! The Rust: its values, the codes off its own tables, and its coefficients.
 
 use ndarray::{Array3, Axis};
-use ndarray_ndimage::probe::{codes, coefficients, Axes};
+use ndarray_ndimage::probe::{coefficients, Axes};
 use ndarray_ndimage::{shift, spline_filter, spline_filter1d, zoom, BorderMode};
 use shared::rust;
 
@@ -34,7 +34,7 @@ fn answer(request: &Request, mode: BorderMode<f64>) -> Theirs {
         .expect("as many voxels as the dimensions say");
     let resampled = |values: Array3<f64>, axes: Axes| Theirs {
         values: flat(values),
-        codes: codes(&axes.points(order, mode), mode),
+        codes: axes.codes(order, mode),
         coefficients: if prefilter && order > 1 {
             flat(coefficients(&data, order, mode, prefilter))
         } else {

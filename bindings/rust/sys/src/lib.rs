@@ -1,5 +1,8 @@
 //! The functions of libvurelika.a. include/vurelika.h says what each takes, returns and leaves.
 
+/// How many codes there are, and places of `counts`.
+pub const VURELIKA_CODES: usize = 4;
+
 /// Functions that take what `shift` takes.
 macro_rules! resamplers {
     ($($name:ident),*) => {

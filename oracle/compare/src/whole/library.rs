@@ -62,7 +62,18 @@ impl Library {
         }
     }
 
-    fn landing(&self, index: usize) -> Landing {
+    /// The code of a kept voxel. Beyond the axis Nearest reads its voxel as a folded neighbour's, at
+    /// order 1; the other modes have order 0, which has no code 3.
+    fn kept_code(&self, at: i64) -> u8 {
+        if self.axis.mode == BorderMode::Nearest && at >= self.axis.length {
+            3
+        } else {
+            0
+        }
+    }
+
+    /// Of the index that has this coordinate.
+    fn landing(&self, index: usize, at: i64) -> Landing {
         let (codes, values) = (self.lent.coverage.lent(), self.lent.output.lent());
         let given = |place: &usize| (codes[*place], values[*place]);
         let [first, others @ ..] = &self.places[index];
@@ -73,7 +84,7 @@ impl Library {
         }
         let is_constant = matches!(self.axis.mode, BorderMode::Constant(_));
         match (of_first.0, f64::from_bits(of_first.1)) {
-            (0, value) => Landing::voxel(value),
+            (code, value) if code == self.kept_code(at) => Landing::voxel(value),
             (1, FILL) if is_constant => Landing::Outside,
             (2, 0.0) if !is_constant => Landing::Outside,
             (code, value) => Landing::Neither(code, value),
@@ -101,8 +112,8 @@ impl Witness for Library {
         while next <= last {
             let first = next.min(last + 1 - length);
             self.call(first)?;
-            for index in next - first..length {
-                each(first + index, self.landing(index as usize))?;
+            for at in next..first + length {
+                each(at, self.landing((at - first) as usize, at))?;
             }
             next = first + length;
         }

@@ -95,6 +95,32 @@ impl Axes {
         })
     }
 
+    /// The coverage code of each voxel: the gravest mark that some axis gives it.
+    pub fn codes(&self, order: usize, mode: BorderMode<f64>) -> Vec<u8> {
+        let [xs, ys, zs] = self.marks(order, mode);
+        let mut codes = Vec::with_capacity(xs.len() * ys.len() * zs.len());
+        for x in &xs {
+            for y in &ys {
+                codes.extend(zs.iter().map(|z| x.max(y).max(z).code(mode)));
+            }
+        }
+        codes
+    }
+
+    /// For each axis the codes along it, as voxels bear them that the other two axes leave at 0.
+    pub fn codes_along(&self, order: usize, mode: BorderMode<f64>) -> [Vec<u8>; 3] {
+        let codes = |marks: Vec<Mark>| marks.iter().map(|mark| mark.code(mode)).collect();
+        self.marks(order, mode).map(codes)
+    }
+
+    fn marks(&self, order: usize, mode: BorderMode<f64>) -> [Vec<Mark>; 3] {
+        let points = self.points(order, mode);
+        [0, 1, 2].map(|axis| {
+            let mark = |point| Mark::of(point, self.idim[axis], self.nb_prepad);
+            points[axis].iter().map(mark).collect()
+        })
+    }
+
     fn tables(&self, order: usize, mode: BorderMode<f64>) -> ZoomShiftReslicer {
         let &Axes {
             idim,
@@ -163,25 +189,40 @@ impl Point {
     }
 }
 
-/// The coverage code of each voxel: 0 computed, 1 dropped in Constant, 2 dropped in another mode.
-pub fn codes(points: &[Vec<Point>; 3], mode: BorderMode<f64>) -> Vec<u8> {
-    let dropped_code = match mode {
-        BorderMode::Constant(_) => 1,
-        _ => 2,
-    };
-    let drops =
-        |axis: usize| -> Vec<bool> { points[axis].iter().map(|p| *p == Point::Dropped).collect() };
-    let [xs, ys, zs] = [drops(0), drops(1), drops(2)];
-    let mut codes = Vec::with_capacity(xs.len() * ys.len() * zs.len());
-    for x in &xs {
-        for y in &ys {
-            codes.extend(
-                zs.iter()
-                    .map(|z| if *x || *y || *z { dropped_code } else { 0 }),
-            );
+/// What an axis has to remark on a voxel, the graver the later.
+#[derive(Clone, Copy, PartialEq, Eq, PartialOrd, Ord)]
+enum Mark {
+    Plain,
+    /// A neighbour with a nonzero weight lay outside the unpadded axis before its own fold.
+    Folded,
+    Dropped,
+}
+
+impl Mark {
+    /// Of a point on an axis of this length, the pad left out. At order 0 there is no weight.
+    fn of(point: &Point, length: usize, pad: isize) -> Mark {
+        let Point::Kept { first, weights, .. } = point else {
+            return Mark::Dropped;
+        };
+        let outside = |neighbour: isize| !(0..length as isize).contains(&(neighbour - pad));
+        let mut weighted = (*first..).zip(weights);
+        if weighted.any(|(neighbour, weight)| *weight != 0.0 && outside(neighbour)) {
+            Mark::Folded
+        } else {
+            Mark::Plain
         }
     }
-    codes
+
+    /// Documents 01 and 02 (#103): 0 computed, 1 dropped in Constant, 2 dropped in another mode,
+    /// 3 kept with a folded neighbour.
+    fn code(self, mode: BorderMode<f64>) -> u8 {
+        match (self, mode) {
+            (Mark::Plain, _) => 0,
+            (Mark::Folded, _) => 3,
+            (Mark::Dropped, BorderMode::Constant(_)) => 1,
+            (Mark::Dropped, _) => 2,
+        }
+    }
 }
 
 #[cfg(test)]
@@ -222,6 +263,14 @@ mod tests {
         Array3::from_shape_vec(DIM, (0..count).map(voxel).collect()).unwrap()
     }
 
+    fn kept_as_0(code: u8) -> u8 {
+        if code == 3 {
+            0
+        } else {
+            code
+        }
+    }
+
     fn bits(values: &ArrayRef3<f64>) -> Vec<u64> {
         let values = values.as_slice().unwrap();
         values.iter().map(|v| v.to_bits()).collect()
@@ -237,9 +286,9 @@ mod tests {
         out
     }
 
-    /// The codes without a look at the tables: ones go in, so that a kept voxel comes out near
-    /// one, and a dropped one as NaN (the fill) or as 0.
-    fn codes_by_effect(
+    /// The codes of dropped voxels, and 0 for all others, without a look at the tables: ones go in, so
+    /// that a kept voxel comes out near one, and a dropped one as NaN (the fill) or as 0.
+    fn dropped_by_effect(
         call: impl Fn(&ArrayRef3<f64>, BorderMode<f64>) -> Array3<f64>,
         mode: BorderMode<f64>,
     ) -> Vec<u8> {
@@ -263,9 +312,11 @@ mod tests {
         let whole = call(&data, request);
         assert_eq!(whole.shape(), axes.odim);
         assert_eq!(bits(&whole), bits(&from_pieces(&data, axes, request)));
-        let from_tables = codes(&axes.points(order, mode), mode);
-        let by_effect = codes_by_effect(|ones, m| call(ones, (order, m, prefilter)), mode);
-        assert_eq!(from_tables, by_effect);
+        let codes = axes.codes(order, mode);
+        assert!(order > 0 || !codes.contains(&3));
+        let dropped: Vec<u8> = codes.into_iter().map(kept_as_0).collect();
+        let by_effect = dropped_by_effect(|ones, m| call(ones, (order, m, prefilter)), mode);
+        assert_eq!(dropped, by_effect);
     }
 
     /// At order 0 the Rust panics on some of the requests.
@@ -302,6 +353,85 @@ mod tests {
                 };
                 check(&axes, request, call);
             }
+        }
+    }
+
+    /// Code 3 without a look at the tables: the scan is all 0 and stands in a margin of ones, so that a
+    /// voxel is 0 exactly where each neighbour that has a weight lies in the scan. The other modes fold
+    /// the coordinate too, and would come out elsewhere.
+    #[test]
+    fn folded_by_effect() {
+        const MARGIN: usize = 8;
+        let [_, d1, d2] = DIM;
+        let in_margin = |place: usize| {
+            let [x, y, z] = [place / (d1 * d2), place / d2 % d1, place % d2];
+            (MARGIN + x, MARGIN + y, MARGIN + z)
+        };
+        let mut scan = Array3::from_elem(DIM.map(|length| length + 2 * MARGIN), 1.0);
+        (0..DIM.iter().product()).for_each(|place| scan[in_margin(place)] = 0.0);
+        let mut seen = [0; 4];
+        for (order, mode, prefilter) in requests() {
+            if order == 0 || !matches!(mode, BorderMode::Constant(_) | BorderMode::Nearest) {
+                continue;
+            }
+            for factors in [[0.0; 3], [0.25, -0.5, 2.5], [-2.0, 0.125, -0.75]] {
+                let blended = shift(&scan, factors, order, BorderMode::Mirror, false);
+                let axes = Axes::of_shift(DIM, factors, order, mode, prefilter);
+                for (place, code) in axes.codes(order, mode).into_iter().enumerate() {
+                    seen[code as usize] += 1;
+                    if kept_as_0(code) == 0 {
+                        assert_eq!(code == 3, blended[in_margin(place)] != 0.0);
+                    }
+                }
+            }
+        }
+        assert!(!seen.contains(&0), "{seen:?}");
+    }
+
+    /// Document 02's lines: 2 by 2 by 4 voxels, order 1, a shift on the last axis.
+    #[test]
+    fn codes_of_document_02() {
+        for (mode, by, lane) in [
+            (BorderMode::Constant(-1.0), -0.5, [0, 0, 0, 3]),
+            (BorderMode::Nearest, -2.0, [0, 0, 3, 3]),
+            (BorderMode::Nearest, 0.25, [3, 0, 0, 0]),
+            (BorderMode::Reflect, 0.5, [3, 0, 0, 0]),
+            (BorderMode::Mirror, 0.5, [0, 0, 0, 0]),
+        ] {
+            let axes = Axes::of_shift([2, 2, 4], [0.0, 0.0, by], 1, mode, true);
+            assert_eq!(axes.codes(1, mode), lane.repeat(4), "{mode:?}, {by}");
+        }
+    }
+
+    /// Order 1 gives its second neighbour a weight of 0 at whole coordinates; order 3 gives its last
+    /// 2^-53, which is not 0.
+    #[test]
+    fn codes_along_an_axis_that_is_not_moved() {
+        for (order, mode, prefilter) in requests() {
+            let axes = Axes::of_shift([7; 3], [0.0; 3], order, mode, prefilter);
+            let along = match order {
+                0 | 1 => [0; 7],
+                2 => [3, 0, 0, 0, 0, 0, 3],
+                3 => [3, 0, 0, 0, 0, 3, 3],
+                _ => [3, 3, 0, 0, 0, 3, 3],
+            };
+            for codes in axes.codes_along(order, mode) {
+                assert_eq!(
+                    codes, along,
+                    "order {order}, {mode:?}, prefilter {prefilter}"
+                );
+            }
+        }
+    }
+
+    /// The last coordinate of 8 voxels zoomed to 26 is rounded above 7.
+    #[test]
+    fn zoom_may_fold_the_last_neighbour() {
+        for mode in MODES {
+            let axes = Axes::of_zoom([8; 3], [3.25; 3], 1, mode, true);
+            let [along, ..] = axes.codes_along(1, mode);
+            assert_eq!(along[..25], [0; 25]);
+            assert_eq!(along[25], 3);
         }
     }
 }
