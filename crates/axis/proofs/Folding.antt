@@ -1,19 +1,30 @@
 -- Whether a neighbour of an output index was folded: by what the code has at hand.
-use Prim.Native.Nat.{ℕ, _+_, _≤_, _<_}
+use Prim.Native.Nat.{ℕ, _+_, _-_, _*_, _≤_, _<_}
+use native.Mathlib.Nat.{zero-add}
 use native.Mathlib.Omega.{arith}
-use mathlib.Core.Path.{_≡_, sym, ap, _∙_}
-use mathlib.Core.Bool.{Bool, true, false, not, _&&_, _||_}
+use mathlib.Core.Path.{_≡_, refl, sym, ap, _∙_, subst}
+use mathlib.Core.Bool.{Bool, true, false, not, _&&_, _||_, true≢false}
 use mathlib.Core.List.{List}
+use lib.Dec.{ltb, leb}
+use lib.IntN.{ℤ, pos, negsuc}
 use lib.ListN.{getD}
 use lib.Ieee.{Float, nan, lt, le, eq}
+use borrow.Author.Tests.{le-ltb, lt-leb, ltb-false, leb-false}
 use Rattle.exact.specs.Rounded.{_⊕_, _⊖_, num}
-use Rattle.lists.proofs.Somes.{some-none, some-at}
+use Rattle.exact.specs.Whole.{Is}
+use Rattle.exact.proofs.Is.{lt-is, le-is}
+use Rattle.exact.proofs.Naturals.{num-is, minus}
+use Rattle.lists.proofs.Somes.{some-none, some-at, none-at, some-found, or-false}
 use Rattle.border.specs.declared.BorderMode.{BorderMode}
 use Rattle.axis.specs.declared.coordinate.Axis.{Axis}
-use Rattle.axis.specs.Coordinate.{settled}
+use Rattle.axis.specs.Coordinate.{settled, kept}
 use Rattle.axis.specs.Weights.{buildSplines}
-use Rattle.axis.specs.Neighbours.{firstNeighbour}
-use Rattle.axis.specs.Folded.{weighs, beyond, weightAt, unfoldedAt, foldedBy, foldedAt}
+use Rattle.axis.specs.Neighbours.{firstNeighbour, outside}
+use Rattle.axis.specs.Point.{besideAt}
+use Rattle.axis.specs.Folded.{weighs, beyond, weightAt, unfoldedAt, foldedBy, foldedAt, InAxis, AllInside, SomeOutside}
+use Rattle.axis.specs.Bookkeeping.{Reached}
+use Rattle.axis.proofs.Inside.{neighbour-whole, neighbour-stands}
+use Rattle.axis.proofs.Points.{above-kept, reached-kept}
 
 -- ---- one neighbour
 module _ (a : Axis) (x w : Float) where
@@ -39,3 +50,84 @@ module _ (order : ℕ) (mode : BorderMode) (a : Axis) (i : ℕ) {to first : Floa
   pub none-folded : (n : ℕ) → order < n → ((k : ℕ) → k < n → (weighs (getD weight k nan) && beyond a (first ⊕ num k)) ≡ false) → false ≡ foldedAt order mode a i
   unfolding foldedAt
   none-folded n l h = sym (some-none (foldedBy order mode a i) (order + 1) (λ k m. sym (by-hand k) ∙ h k (omega arith)))
+
+-- ---- a neighbour as a whole number
+-- an axis of `length` voxels behind a pad
+pub record Behind (a : Axis) (length pad : ℕ) : Type 0 where
+  pub long : a .len ≡ length + 2 * pad
+  pub stands : Is (a .pad) (pos pad)
+  pub short : a .len ≤ 4120
+
+module _ {a : Axis} {length pad : ℕ} (b : Behind a length pad) where
+  end-is : Is (num (a .len) ⊖ a .pad) (pos (length + pad))
+  end-is =
+      let l = b .long in
+      let e : a .len - pad ≡ length + pad = omega arith in
+      subst (λ (n : ℕ). Is (num (a .len) ⊖ a .pad) (pos n)) e (minus (num-is (a .len) (omega (arith, b .short))) (b .stands) (omega arith) (omega (arith, b .short)))
+
+  pub beyond-at : {x : Float} {n : ℕ} → Is x (pos n) → beyond a x ≡ (ltb n pad || leb (length + pad) n)
+  beyond-at h = λ t. lt-is h (b .stands) t || le-is end-is h t
+
+  pub in-axis : {x : Float} → InAxis length pad x → beyond a x ≡ false
+  in-axis (j, l, h) = beyond-at h ∙ (λ t. le-ltb (pad + j) pad (omega arith) t || lt-leb (length + pad) (pad + j) (omega arith) t)
+
+  pub not-beyond : {x : Float} (z : ℤ) → Is x z → beyond a x ≡ false → InAxis length pad x
+  not-beyond {x} (pos n) h e =
+      let o = or-false (ltb n pad) (leb (length + pad) n) (sym (beyond-at h) ∙ e) in
+      let low = ltb-false n pad (o .0) in
+      let high = leb-false (length + pad) n (o .1) in
+      let k : n ≡ pad + (n - pad) = omega arith in
+      (n - pad, omega arith, subst (λ (m : ℕ). Is x (pos m)) k h)
+  not-beyond {x} (negsuc c) h e = absurd (true≢false (sym (lt-is h (b .stands)) ∙ or-false (lt x (a .pad)) (le (num (a .len) ⊖ a .pad) x) e .0))
+
+-- ---- the neighbours of an output index
+and-true : (p q : Bool) → (p && q) ≡ true → (p ≡ true) × (q ≡ true)
+and-true true q e = (refl, e)
+and-true false q e = absurd (true≢false (sym e))
+
+module _ (order : ℕ) (mode : BorderMode) {a : Axis} {length pad : ℕ} (b : Behind a length pad) (i : ℕ) where
+  pub folded-outside : foldedAt order mode a i ≡ true → SomeOutside order mode length pad a i
+  unfolding foldedAt
+  folded-outside e =
+      let f = some-found (foldedBy order mode a i) (order + 1) e in
+      let both = and-true (weighs (weightAt order mode a i (f .0))) (beyond a (unfoldedAt order mode a i (f .0))) (f .2) in
+      record { k = f .0; upto = omega (arith, f .1); weight = both .0; outside = λ h. true≢false (sym (both .1) ∙ in-axis b h) }
+
+  pub inside-unfolded : AllInside order mode length pad a i → foldedAt order mode a i ≡ false
+  unfolding foldedAt
+  inside-unfolded h = some-none (foldedBy order mode a i) (order + 1) (λ k l. go k (omega arith) (weighs (weightAt order mode a i k)) refl)
+    where
+      go : (k : ℕ) → k ≤ order → (t : Bool) → weighs (weightAt order mode a i k) ≡ t → (t && beyond a (unfoldedAt order mode a i k)) ≡ false
+      go k l true e = in-axis b (h k l e)
+      go k l false e = refl
+
+  -- that of a kept one is a whole number, inside or not
+  module _ (r : Reached order a i) (keeps : kept (settled mode a i) ≡ true) where
+    beside : (k : ℕ) → k ≤ order → beyond a (unfoldedAt order mode a i k) ≡ false → InAxis length pad (unfoldedAt order mode a i k)
+    unfolding unfoldedAt
+    beside k l e =
+        let p = reached-kept order mode a i refl r keeps in
+        let n = neighbour-whole order (settled mode a i) k (p .upto) (p .bound) (above-kept (settled mode a i) (p .above)) l in
+        not-beyond b (n .0) (n .1) e
+
+    pub unfolded-inside : foldedAt order mode a i ≡ false → AllInside order mode length pad a i
+    unfolding foldedAt
+    unfolded-inside e k l w = beside k l (ap (λ (t : Bool). t && beyond a (unfoldedAt order mode a i k)) (sym w) ∙ none-at (foldedBy order mode a i) (order + 1) e k (omega arith))
+
+    pub outside-folded : SomeOutside order mode length pad a i → foldedAt order mode a i ≡ true
+    outside-folded s = go (foldedAt order mode a i) refl
+      where
+        go : (t : Bool) → foldedAt order mode a i ≡ t → t ≡ true
+        go true e = refl
+        go false e = absurd (s .outside (unfolded-inside e (s .k) (s .upto) (s .weight)))
+
+-- ---- order 0: a kept index that is not refused reads its one voxel inside
+pub order-0-unfolded : (mode : BorderMode) (a : Axis) (i : ℕ) → Is (a .pad) (pos 0) → Reached 0 a i → kept (settled mode a i) ≡ true → besideAt mode a i ≡ false → foldedAt 0 mode a i ≡ false
+unfolding besideAt unfoldedAt
+order-0-unfolded mode a i pad r keeps e =
+    let p = reached-kept 0 mode a i refl r keeps in
+    let to = settled mode a i in
+    let none : outside 0 (a .len) (firstNeighbour 0 to) ≡ false = ap (λ (t : Bool). t && outside 0 (a .len) (firstNeighbour 0 to)) (sym keeps) ∙ e in
+    inside-unfolded 0 mode {a = a} {length = a .len} {pad = 0} (record { long = omega arith; stands = pad; short = r .most }) i (λ k l w.
+    let n = neighbour-stands 0 (a .len) to k (p .upto) (p .most) (p .bound) (above-kept to (p .above)) l none in
+    (n .0, n .1, subst (λ (m : ℕ). Is (firstNeighbour 0 to ⊕ num k) (pos m)) (sym (zero-add (n .0))) (n .2)))

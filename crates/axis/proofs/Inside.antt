@@ -19,6 +19,7 @@ use Rattle.exact.proofs.Naturals.{natAbs-neg, num-is}
 use Rattle.exact.proofs.Withins.{within-mono, add-within}
 use Rattle.exact.proofs.Casts.{toUnsigned-is, unsigned-asks}
 use Rattle.exact.proofs.Above.{Above, floor-above, half-above}
+use Rattle.lists.proofs.Somes.{or-false}
 use Rattle.border.specs.declared.BorderMode.{BorderMode}
 use Rattle.border.specs.declared.BorderMode.the-variants.{Constant, Mirror, Nearest, Reflect, Wrap}
 use Rattle.border.specs.Fold.{fold}
@@ -109,11 +110,22 @@ module _ (first : Float) (c m : ℕ) (most : c ≤ 2 ^ 31 + 1) (small : m ≤ 3)
       below : (c m : ℕ) → c < m → ltZ (pos c -ℤ pos m) (pos 0) ≡ true
       below c m b = ap (λ (z : ℤ). ltZ z (pos 0)) (sym (diff-neg c m b)) ∙ negative (m - c) (omega arith)
 
--- ---- the theorem: orders 1 to 5, and order 0 where the index is not outside
-or-false : (a b : Bool) → (a || b) ≡ false → (a ≡ false) × (b ≡ false)
-or-false true b e = absurd (true≢false e)
-or-false false b e = (refl, e)
+-- ---- before its fold a neighbour is a whole number
+pub neighbour-whole : (order : ℕ) (to : Float) (k : ℕ) → order ≤ 5 → Within 30 to → Above to → k ≤ order → (z : ℤ) × Is (firstNeighbour order to ⊕ num k) z
+neighbour-whole order to k o w above l =
+    let f = first-is order to o w above in
+    (pos (f .0 + k) -ℤ pos (1 + order / 2), nth-is (firstNeighbour order to) (f .0) (1 + order / 2) (f .1) (omega arith) (f .2) k (le-trans l o))
 
+-- where none lies outside, each is inside as it stands
+pub neighbour-stands :
+    (order L : ℕ) (to : Float) (k : ℕ) → order ≤ 5 → L ≤ 4120 → Within 30 to → Above to → k ≤ order → outside order L (firstNeighbour order to) ≡ false → (i : ℕ) × (i < L) × Is (firstNeighbour order to ⊕ num k) (pos i)
+neighbour-stands order L to k o top w above l e =
+    let f = first-is order to o w above in
+    let first = firstNeighbour order to in
+    let within = or-false (lt first (num 0)) (le (num L) (first ⊕ num order)) e in
+    plain-inside first (f .0) (1 + order / 2) (f .1) (omega arith) (f .2) order k L o l top (within .0) (within .1)
+
+-- ---- the theorem: orders 1 to 5, and order 0 where the index is not outside
 pub neighbour-inside :
     (order : ℕ) (mode : BorderMode) (L : ℕ) (to : Float) (k : ℕ) → order ≤ 5 → 2 ≤ L → L ≤ 4120 → Within 30 to → Above to → k ≤ order →
     (i : ℕ) × (i < L) × Is (neighbour mode (outside order L (firstNeighbour order to)) L (firstNeighbour order to) k) (pos i)

@@ -72,7 +72,7 @@ placed-all mode order len first at k l p =
     none m h = simp (lt-leb m order h)
 
 -- ---- the kept point
-above-kept : (to : Float) → T (kept to) → Above to
+pub above-kept : (to : Float) → T (kept to) → Above to
 unfolding neg ofInt
 above-kept to h = h
 

@@ -1,9 +1,12 @@
 -- #103: "on some axis a neighbour with a nonzero weight lay outside the unpadded axis before its own fold. A folded neighbour of weight zero stays code 0."
-use Prim.Native.Nat.{ℕ, _+_}
-use mathlib.Core.Bool.{Bool, not, _&&_, _||_}
+use Prim.Native.Nat.{ℕ, _+_, _≤_, _<_}
+use mathlib.Core.Path.{_≡_}
+use mathlib.Core.Bool.{Bool, true, not, _&&_, _||_}
+use lib.IntN.{pos}
 use lib.ListN.{getD}
 use lib.Ieee.{Float, nan, lt, le, eq}
 use Rattle.exact.specs.Rounded.{_⊕_, _⊖_, num}
+use Rattle.exact.specs.Whole.{Is}
 use Rattle.lists.specs.Some.{someBelow}
 use Rattle.border.specs.declared.BorderMode.{BorderMode}
 use Rattle.axis.specs.declared.coordinate.Axis.{Axis}
@@ -36,3 +39,19 @@ foldedBy order mode a i k = weighs (weightAt order mode a i k) && beyond a (unfo
 unfoldable pub foldedAt : ℕ → BorderMode → Axis → ℕ → Bool
 unfolding someBelow weightAt unfoldedAt
 foldedAt order mode a i = someBelow (foldedBy order mode a i) (order + 1)
+
+-- ---- the same in whole numbers: an axis of `length` voxels, which stand from the pad on
+-- x is one of its voxels
+abbrev pub InAxis : ℕ → ℕ → Float → Type 0
+InAxis length pad x = (j : ℕ) × (j < length) × Is x (pos (pad + j))
+
+-- every neighbour with a nonzero weight is
+abbrev pub AllInside : ℕ → BorderMode → ℕ → ℕ → Axis → ℕ → Type 0
+AllInside order mode length pad a i = (k : ℕ) → k ≤ order → weighs (weightAt order mode a i k) ≡ true → InAxis length pad (unfoldedAt order mode a i k)
+
+-- some neighbour with a nonzero weight is not
+pub record SomeOutside (order : ℕ) (mode : BorderMode) (length pad : ℕ) (a : Axis) (i : ℕ) : Type 0 where
+  pub k : ℕ
+  pub upto : k ≤ order
+  pub weight : weighs (weightAt order mode a i k) ≡ true
+  pub outside : InAxis length pad (unfoldedAt order mode a i k) → ⊥

@@ -28,10 +28,12 @@ impl Counts {
         requires { ⌜ total self < 18446744073709551615 ⌝ }
         ensures { λ r. ⌜ r ≡ withCode self code ⌝ }
     {
-        if code == 0 {
-            self.computed += 1;
-        } else if code == 1 {
-            self.filled += 1;
+        if code < 2 {
+            if code == 0 {
+                self.computed += 1;
+            } else {
+                self.filled += 1;
+            }
         } else if code == 2 {
             self.defaulted += 1;
         } else {

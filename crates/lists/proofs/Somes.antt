@@ -11,6 +11,11 @@ or-true : (b : Bool) → (b || true) ≡ true
 or-true true = refl
 or-true false = refl
 
+-- of two tests neither holds
+pub or-false : (a b : Bool) → (a || b) ≡ false → (a ≡ false) × (b ≡ false)
+or-false true b e = absurd (true≢false e)
+or-false false b e = (refl, e)
+
 pub some-none : (test : ℕ → Bool) (n : ℕ) → ((i : ℕ) → i < n → test i ≡ false) → someBelow test n ≡ false
 unfolding someBelow
 some-none test zero h = refl
@@ -33,3 +38,10 @@ some-found test (suc n) e = go (someBelow test n) (some-found test n) e
     go : (b : Bool) → (b ≡ true → (i : ℕ) × (i < n) × (test i ≡ true)) → (b || test n) ≡ true → (i : ℕ) × (i < suc n) × (test i ≡ true)
     go true h e = let r = h refl in (r .0, omega (arith, r .1), r .2)
     go false h e = (n, le-refl (suc n), e)
+
+pub none-at : (test : ℕ → Bool) (n : ℕ) → someBelow test n ≡ false → (i : ℕ) → i < n → test i ≡ false
+none-at test n none i l = go (test i) refl
+  where
+    go : (b : Bool) → test i ≡ b → b ≡ false
+    go true e = absurd (true≢false (sym (some-at test n i l e) ∙ none))
+    go false e = refl

@@ -9,7 +9,8 @@ use Rattle.limits.specs.Limits.{mostPlaces}
 use Rattle.prefilter.specs.Volume.{countOf}
 use Rattle.request.specs.Conditions.{wrong}
 use Rattle.request.specs.Bookkeeping.{Small, Lengths}
-use Rattle.request.proofs.Requests.{small, good-lengths, or-false}
+use Rattle.lists.proofs.Somes.{or-false}
+use Rattle.request.proofs.Requests.{small, good-lengths}
 use Rattle.refusal.specs.declared.Verdict.{Verdict}
 use Rattle.refusal.specs.declared.Verdict.the-variants.{Passed, Refused}
 use Rattle.refusal.specs.declared.Refusal.{Refusal}

@@ -9,7 +9,8 @@ use Rattle.prefilter.specs.Volume.{countOf}
 use Rattle.request.specs.declared.Request.{Request}
 use Rattle.request.specs.Sizes.{needed, zoomDims}
 use Rattle.request.specs.Conditions.{badLengths, tooLarge, wildFill, someWild}
-use Rattle.request.proofs.Requests.{or-false, good-lengths}
+use Rattle.lists.proofs.Somes.{or-false}
+use Rattle.request.proofs.Requests.{good-lengths}
 use Rattle.npy.specs.File.{isNpy, dimsOf, voxelsOf, written}
 use Rattle.npy.specs.Call.{NpyCall, npyCallOf, sizeOf, writeCall}
 use Rattle.npy.proofs.RoundTrip.{written-dims, written-is-npy, written-voxels}

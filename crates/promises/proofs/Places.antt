@@ -10,7 +10,7 @@ use lib.Ieee.{Float, nan}
 use Rattle.lists.specs.Tabulate.{tabulate}
 use Rattle.lists.proofs.Tabulated.{getD-tabulate}
 use Rattle.lists.proofs.Stretches.{some-place}
-use Rattle.coverage.specs.Coverage.{xOf, yOf, zOf, codeAt, codes}
+use Rattle.coverage.specs.Coverage.{xOf, yOf, zOf, ownCode, ownCodes}
 use Rattle.voxels.specs.Voxel.{voxelAt, values}
 use Rattle.border.specs.declared.BorderMode.{BorderMode}
 use Rattle.axis.specs.declared.coordinate.Axis.{Axis}
@@ -44,9 +44,9 @@ each-place d P h m l =
     subst P own (h (m / plane) (q / row) (q % row) (record { x = div-lt-iff-lt-mul some .1 l; y = div-lt-iff-lt-mul some' .1 below; z = mod-lt q some' }))
 
 module _ (mode : BorderMode) (xa ya za : Axis) (i j k : ℕ) (hi : i < xa .out) (hj : j < ya .out) (hk : k < za .out) where
-  code-at : getD (codes mode xa ya za) (i * (ya .out * za .out) + (j * za .out + k)) 0 ≡ codeAt mode xa ya za i j k
-  unfolding codes
-  code-at = at-place (codeAt mode xa ya za) 0 (xa .out) (ya .out) (za .out) i j k hi hj hk
+  code-at : (order : ℕ) → getD (ownCodes order mode xa ya za) (i * (ya .out * za .out) + (j * za .out + k)) 0 ≡ ownCode order mode xa ya za i j k
+  unfolding ownCodes
+  code-at order = at-place (ownCode order mode xa ya za) 0 (xa .out) (ya .out) (za .out) i j k hi hj hk
 
   voxel-at : (order : ℕ) (xs : List Float) → getD (values order mode xa ya za xs) (i * (ya .out * za .out) + (j * za .out + k)) nan ≡ voxelAt order mode xa ya za xs i j k
   unfolding values
@@ -54,8 +54,8 @@ module _ (mode : BorderMode) (xa ya za : Axis) (i j k : ℕ) (hi : i < xa .out) 
 
 -- ---- of what a success writes
 module _ (e : Entry) (r : Request) (input output : List Float) (coverage : List ℕ) (work : List Float) (s : Succeeds e r input output coverage work) (i j k : ℕ) (h : Inside (outputDims e r) i j k) where
-  pub code-is : code (outputDims e r) (call e r input output coverage work .coverage) i j k ≡ codeAt (r .mode) (axesOf e r .x) (axesOf e r .y) (axesOf e r .z) i j k
-  code-is = ap (λ (c : Call). code (outputDims e r) (c .coverage) i j k) (s .writes) ∙ code-at (r .mode) (axesOf e r .x) (axesOf e r .y) (axesOf e r .z) i j k (h .x) (h .y) (h .z)
+  pub code-is : code (outputDims e r) (call e r input output coverage work .coverage) i j k ≡ ownCode (r .order) (r .mode) (axesOf e r .x) (axesOf e r .y) (axesOf e r .z) i j k
+  code-is = ap (λ (c : Call). code (outputDims e r) (c .coverage) i j k) (s .writes) ∙ code-at (r .mode) (axesOf e r .x) (axesOf e r .y) (axesOf e r .z) i j k (h .x) (h .y) (h .z) (r .order)
 
   pub voxel-is : voxel (outputDims e r) (call e r input output coverage work .output) i j k ≡ voxelAt (r .order) (r .mode) (axesOf e r .x) (axesOf e r .y) (axesOf e r .z) (coefficients r input) i j k
   voxel-is = ap (λ (c : Call). voxel (outputDims e r) (c .output) i j k) (s .writes) ∙ voxel-at (r .mode) (axesOf e r .x) (axesOf e r .y) (axesOf e r .z) i j k (h .x) (h .y) (h .z) (r .order) (coefficients r input)

@@ -8,14 +8,13 @@ use lib.IntN.{ℤ, pos, negℤ, _+ℤ_, _-ℤ_, negℤ-negℤ, +ℤ-negℤ-cance
 use lib.Dec.{T, lit≤}
 use lib.ListN.{length, getD}
 use lib.Ieee.{Float, nan, binary64, fits}
-use Rattle.lists.proofs.Somes.{some-none}
+use Rattle.lists.proofs.Somes.{some-none, none-at, or-false}
 use Rattle.border.specs.declared.BorderMode.the-variants.{Constant}
 use Rattle.prefilter.specs.Volume.{countOf}
 use Rattle.request.specs.declared.Request.{Request}
 use Rattle.request.specs.Sizes.{needed}
 use Rattle.request.specs.Conditions.{badLengths, tooLarge, wild, wildFill, someWild}
 use Rattle.refusal.specs.Refusals.{shiftChecks}
-use Rattle.request.proofs.Requests.{none-at, or-false}
 use Rattle.resample.specs.Call.{Call, numberIn, shiftCall}
 use Rattle.promises.specs.Given.{holds}
 use Rattle.promises.specs.Place.{voxel}

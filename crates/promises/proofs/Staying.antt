@@ -24,7 +24,7 @@ use Rattle.promises.specs.Stays.{stay, Stays}
 use Rattle.promises.proofs.Succeeding.{succeeds}
 use Rattle.promises.proofs.Places.{each-place}
 use Rattle.promises.proofs.Counted.{counted}
-use Rattle.promises.proofs.Tallies.{howMany, bearing-is, alike, all, none, volume}
+use Rattle.promises.proofs.Tallies.{howMany, bearing-is, alike, all, none, bearing-none, volume}
 
 -- ---- one axis: whether index i of n, less the shift, lies inside
 abbrev stays : ℕ → ℤ → ℕ → Bool
@@ -72,18 +72,14 @@ staying n (negsuc p) = alike n (stays n (negsuc p)) (λ i. ltb i (n - suc p)) (�
     less i = bool-ext (ltb (i + suc p) n) (ltb i (n - suc p)) (λ t. lt→ltb i (n - suc p) (omega (arith, ltb→lt (i + suc p) n t))) (λ t. lt→ltb (i + suc p) n (omega (arith, ltb→lt i (n - suc p) t)))
 
 -- ---- codes that are 0 or 1
-record Two (l : List ℕ) : Type 0 where
-  both : bearing 0 l + bearing 1 l ≡ length l
-  others : bearing 2 l ≡ 0
-
-two-codes : (l : List ℕ) → ((m : ℕ) → m < length l → getD l m 0 ≤ 1) → Two l
+two-codes : (l : List ℕ) → ((m : ℕ) → m < length l → getD l m 0 ≤ 1) → bearing 0 l + bearing 1 l ≡ length l
 unfolding bearing
-two-codes [] h = record { both = refl; others = refl }
+two-codes [] h = refl
 two-codes (c ∷ cs) h = one c (h 0 (zero-lt-suc (length cs))) (two-codes cs (λ m l. h (suc m) (suc-le-suc l)))
   where
-    one : (c : ℕ) → c ≤ 1 → Two cs → Two (c ∷ cs)
-    one zero l t = record { both = omega arith; others = omega arith }
-    one (suc zero) l t = record { both = omega arith; others = omega arith }
+    one : (c : ℕ) → c ≤ 1 → bearing 0 cs + bearing 1 cs ≡ length cs → bearing 0 (c ∷ cs) + bearing 1 (c ∷ cs) ≡ length (c ∷ cs)
+    one zero l t = omega arith
+    one (suc zero) l t = omega arith
     one (suc (suc c)) l t = absurd (omega arith)
 
 -- ---- the volume
@@ -102,7 +98,7 @@ module _ (d : List ℕ) (s : ℕ → ℤ) (fill : Float) (before after : List Fl
 
   pub shift-stays : length codes ≡ getD d 0 0 * (getD d 1 0 * getD d 2 0) → Stays d s codes
   shift-stays long =
-      let two = two-codes codes (λ m l. each-place d (λ (m : ℕ). getD codes m 0 ≤ 1) (λ i j k l. subst (λ (c : ℕ). c ≤ 1) (sym (code-moved i j k l)) (at-most (keeps 0 i && keeps 1 j && keeps 2 k))) m (omega arith)) in
+      let low : (m : ℕ) → m < length codes → getD codes m 0 ≤ 1 = (λ m l. each-place d (λ (m : ℕ). getD codes m 0 ≤ 1) (λ i j k l. subst (λ (c : ℕ). c ≤ 1) (sym (code-moved i j k l)) (at-most (keeps 0 i && keeps 1 j && keeps 2 k))) m (omega arith)) in
       record {
         computed =
             bearing-is 0 codes
@@ -110,8 +106,8 @@ module _ (d : List ℕ) (s : ℕ → ℤ) (fill : Float) (before after : List Fl
             ∙ volume (getD d 0 0) (getD d 1 0) (getD d 2 0) (λ m. eqb (getD codes m 0) 0) (keeps 0) (keeps 1) (keeps 2)
             (λ i j k x y z. ap (λ (c : ℕ). eqb c 0) (code-moved i j k (record { x = x; y = y; z = z })) ∙ is-zero (keeps 0 i && keeps 1 j && keeps 2 k))
             ∙ (λ t. staying (getD d 0 0) (s 0) t * (staying (getD d 1 0) (s 1) t * staying (getD d 2 0) (s 2) t));
-        rest = two .both ∙ long;
-        none = two .others;
+        rest = two-codes codes low ∙ long;
+        none = (bearing-none 2 codes (λ m l e. omega (arith, low m l)), bearing-none 3 codes (λ m l e. omega (arith, low m l)));
       }
     where
       at-most : (b : Bool) → cond b 0 1 ≤ 1
@@ -122,7 +118,7 @@ module _ (d : List ℕ) (s : ℕ → ℤ) (fill : Float) (before after : List Fl
       is-zero true = refl
       is-zero false = refl
 
--- ---- so the counts of a whole shift's call are the voxels that stay inside, the rest, and 0
+-- ---- so the counts of a whole shift's call are the voxels that stay inside, the rest, and 0 twice
 module _ (r : Request) (input output : List Float) (coverage : List ℕ) (work : List Float) (s : ℕ → ℤ) (fill : Float) where
   abbrev shifted : Call
   shifted = shiftCall r input output coverage work
@@ -130,7 +126,7 @@ module _ (r : Request) (input output : List Float) (coverage : List ℕ) (work :
   abbrev inside : ℕ
   inside = stay (getD (r .dims) 0 0) (s 0) * (stay (getD (r .dims) 1 0) (s 1) * stay (getD (r .dims) 2 0) (s 2))
 
-  pub shift-counts : numberIn (shifted .answer) ≡ 0 → Moved (r .dims) s fill input (shifted .output) (shifted .coverage) → countsIn (shifted .answer) ≡ record { computed = inside; filled = length output - inside; defaulted = 0 }
+  pub shift-counts : numberIn (shifted .answer) ≡ 0 → Moved (r .dims) s fill input (shifted .output) (shifted .coverage) → countsIn (shifted .answer) ≡ record { computed = inside; filled = length output - inside; defaulted = 0; folded = 0 }
   shift-counts done moved =
       let c = counted shifting r input output coverage work done in
       let count = succeeds r input output coverage work shifting done .passes .admitted .values in
@@ -138,4 +134,5 @@ module _ (r : Request) (input output : List Float) (coverage : List ℕ) (work :
       let computed : countsIn (shifted .answer) .computed ≡ inside = omega (arith, c .each .computed, h .computed) in
       let filled : countsIn (shifted .answer) .filled ≡ length output - inside = omega (arith, c .each .filled, h .computed, h .rest, count) in
       let defaulted : countsIn (shifted .answer) .defaulted ≡ 0 = omega (arith, c .each .defaulted, h .none) in
-      λ t. record { computed = computed t; filled = filled t; defaulted = defaulted t }
+      let folded : countsIn (shifted .answer) .folded ≡ 0 = omega (arith, c .each .folded, h .none) in
+      λ t. record { computed = computed t; filled = filled t; defaulted = defaulted t; folded = folded t }

@@ -7,6 +7,7 @@ use mathlib.Core.Bool.{Bool, true, false, _&&_, cond}
 use mathlib.Core.List.{List, [], _∷_}
 use lib.Dec.{eqb}
 use lib.ListN.{length, getD}
+use borrow.Author.Tests.{ne-eqb}
 use Rattle.promises.specs.Marks.{bearing}
 
 unfoldable pub howMany : (ℕ → Bool) → ℕ → ℕ
@@ -33,6 +34,10 @@ pub none : (n : ℕ) → howMany (λ i. false) n ≡ 0
 unfolding howMany
 none zero = refl
 none (suc n) = omega (arith, none n)
+
+-- a code that no place bears
+pub bearing-none : (code : ℕ) (l : List ℕ) → ((m : ℕ) → m < length l → getD l m 0 ≡ code → ⊥) → bearing code l ≡ 0
+bearing-none code l h = bearing-is code l ∙ alike (length l) (λ m. eqb (getD l m 0) code) (λ m. false) (λ m k. ne-eqb (getD l m 0) code (h m k)) ∙ none (length l)
 
 append : (m n : ℕ) (t : ℕ → Bool) → howMany t (m + n) ≡ howMany t m + howMany (λ i. t (m + i)) n
 unfolding howMany

@@ -11,7 +11,7 @@ use lib.Ieee.{Float, nan, neg, ofInt, le}
 use borrow.Author.Tests.{le-ltb}
 use Rattle.exact.specs.Rounded.{num}
 use Rattle.exact.proofs.Withins.{within-of-tests, within-finite}
-use Rattle.lists.proofs.Somes.{some-none}
+use Rattle.lists.proofs.Somes.{some-none, none-at, or-false}
 use Rattle.border.specs.declared.BorderMode.{BorderMode}
 use Rattle.border.specs.declared.BorderMode.the-variants.{Constant}
 use Rattle.axis.specs.declared.coordinate.Axis.{Axis}
@@ -25,7 +25,7 @@ use Rattle.request.specs.Sizes.{filters, padding, sourceDims}
 use Rattle.request.specs.Bookkeeping.{Lengths}
 use Rattle.request.specs.Conditions.{wild, wildFill, someWild, besideAny}
 use Rattle.refusal.specs.Refusals.{shiftChecks}
-use Rattle.request.proofs.Requests.{none-at, or-false, not-both, good-lengths}
+use Rattle.request.proofs.Requests.{not-both, good-lengths}
 use Rattle.resample.specs.Call.{numberIn, sourceOf, coefficients, shiftCall}
 use Rattle.promises.specs.Entries.{shifting}
 use Rattle.promises.specs.Given.{holds}

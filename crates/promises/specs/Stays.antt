@@ -14,4 +14,4 @@ stay length z = length - natAbs z
 pub record Stays (d : List ℕ) (s : ℕ → ℤ) (codes : List ℕ) : Type 0 where
   pub computed : bearing 0 codes ≡ stay (getD d 0 0) (s 0) * (stay (getD d 1 0) (s 1) * stay (getD d 2 0) (s 2))
   pub rest : bearing 0 codes + bearing 1 codes ≡ getD d 0 0 * (getD d 1 0 * getD d 2 0)
-  pub none : bearing 2 codes ≡ 0
+  pub none : (bearing 2 codes ≡ 0) × (bearing 3 codes ≡ 0)

@@ -10,8 +10,7 @@ use lib.ListN.{getD}
 use lib.Ieee.{nan, lt, le}
 use borrow.Author.Tests.{ltb-false}
 use Rattle.exact.specs.Rounded.{num}
-use Rattle.lists.specs.Some.{someBelow}
-use Rattle.lists.proofs.Somes.{some-at}
+use Rattle.lists.proofs.Somes.{none-at, or-false}
 use Rattle.axis.specs.Coordinate.{isNearest}
 use Rattle.request.specs.declared.Request.{Request}
 use Rattle.request.specs.Sizes.{padding, sourceDims}
@@ -45,17 +44,6 @@ pub count-most : (d : List ℕ) → Small d → getD d 0 0 * (getD d 1 0 * getD 
 count-most d h = mul-le-mul (h .0) (area-most d h)
 
 -- ---- what a test that does not apply says
-pub none-at : (test : ℕ → Bool) (n : ℕ) → someBelow test n ≡ false → (i : ℕ) → i < n → test i ≡ false
-none-at test n none i l = go (test i) refl
-  where
-    go : (b : Bool) → test i ≡ b → b ≡ false
-    go true e = absurd (true≢false (sym (some-at test n i l e) ∙ none))
-    go false e = refl
-
-pub or-false : (a b : Bool) → (a || b) ≡ false → (a ≡ false) × (b ≡ false)
-or-false false b e = (refl, e)
-or-false true b e = absurd (true≢false e)
-
 pub not-both : (a b : Bool) → not (a && b) ≡ false → T a × T b
 not-both true true e = (tt, tt)
 not-both true false e = absurd (true≢false e)

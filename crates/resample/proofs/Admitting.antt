@@ -29,7 +29,8 @@ use Rattle.voxels.specs.Bookkeeping.{Reaches}
 use Rattle.resample.specs.Call.{callOf, callBy, success}
 use Rattle.resample.specs.Bookkeeping.{Passes}
 use Rattle.refusal.proofs.Firsts.{all-clear}
-use Rattle.request.proofs.Requests.{none-at, or-false, not-both, pad-most, good-lengths, good-zooms}
+use Rattle.lists.proofs.Somes.{none-at, or-false}
+use Rattle.request.proofs.Requests.{not-both, pad-most, good-lengths, good-zooms}
 
 -- ---- a shift that refusal 4 lets pass
 at-most : (n d : ℕ) → n * 1 < 1 * 2 ^ 20 * d → n ≤ 2 ^ 20 * d

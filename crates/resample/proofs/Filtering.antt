@@ -17,7 +17,8 @@ use Rattle.request.specs.Bookkeeping.{Lengths}
 use Rattle.refusal.specs.Refusals.{first, filterChecks, splineFilterChecks, splineFilter1dChecks}
 use Rattle.resample.specs.Call.{filterCallOf, filterCallBy}
 use Rattle.refusal.proofs.Firsts.{Clear, all-clear}
-use Rattle.request.proofs.Requests.{or-false, good-lengths}
+use Rattle.lists.proofs.Somes.{or-false}
+use Rattle.request.proofs.Requests.{good-lengths}
 
 -- ---- what the filters then know; the numbers are the lengths of the buffers
 pub record Filters (r : Request) (input output : ℕ) : Type 0 where

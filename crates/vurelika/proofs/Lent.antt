@@ -14,7 +14,7 @@ use Rattle.axis.specs.Length.{outputLength}
 use Rattle.request.specs.declared.Request.{Request}
 use Rattle.request.specs.Sizes.{needed, zoomDims}
 use Rattle.request.specs.Conditions.{badLength, badLengths, badZoom, badFactors}
-use Rattle.request.proofs.Requests.{none-at}
+use Rattle.lists.proofs.Somes.{none-at}
 use Rattle.numbers.specs.Numbers.{isMode, modeOf, requestOf}
 use Rattle.vurelika.specs.Door.{zoomLength, workCount}
 

@@ -8,7 +8,8 @@ use borrow.Author.Tests.{ltb-false}
 use Rattle.axis.specs.Bookkeeping.{Zooms}
 use Rattle.exact.specs.Rounded.{num}
 use Rattle.request.specs.Conditions.{badLength, badZoom}
-use Rattle.request.proofs.Requests.{or-false, not-both}
+use Rattle.lists.proofs.Somes.{or-false}
+use Rattle.request.proofs.Requests.{not-both}
 use Rattle.vurelika.specs.Door.{zoomLength}
 use borrow.Author.Needs.{needs}
 use Rattle.vurelika.proofs.vurelika_zoom_length.Statement.{statement}
