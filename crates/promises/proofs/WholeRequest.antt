@@ -18,6 +18,7 @@ use Rattle.axis.specs.declared.coordinate.Axis.{Axis}
 use Rattle.axis.specs.declared.point.Point.{Point}
 use Rattle.axis.specs.Coordinate.{shiftAxis, isNearest}
 use Rattle.axis.specs.Point.{pointAt, besideAt, someBeside}
+use Rattle.axis.specs.Folded.{foldedAt}
 use Rattle.coverage.specs.Coverage.{keptAt}
 use Rattle.prefilter.specs.Volume.{filterVolume}
 use Rattle.request.specs.declared.Request.{Request}
@@ -33,7 +34,7 @@ use Rattle.promises.specs.Moves.{F64s, Whole, Outside}
 use Rattle.promises.proofs.Nine.{nine-clear}
 use Rattle.promises.proofs.Succeeding.{Succeeds, succeeds}
 use Rattle.promises.proofs.WholePoint.{Names}
-use Rattle.promises.proofs.WholeShift.{Shifts, dropped, stays, point-names, never-beside}
+use Rattle.promises.proofs.WholeShift.{Shifts, dropped, stays, point-unfolded, point-names, never-beside}
 use Rattle.promises.proofs.WholeVoxel.{Finite}
 
 -- what demand 3 asks of a call of `shift`: s is its shifts
@@ -113,6 +114,9 @@ module _ {r : Request} {input output : List Float} {coverage : List ℕ} {work :
     module _ (x : ℕ) (k : x < dim r c) (e : pos i -ℤ s c ≡ pos x) where
       pub keeps : keptAt (r .mode) (axis r c) i ≡ true
       keeps = given (λ m p. keptAt m (padded p) i ≡ true) (stays fill shifts i h x k e)
+
+      pub unfolded : foldedAt (r .order) (r .mode) (axis r c) i ≡ false
+      unfolded = given (λ m p. foldedAt (r .order) m (padded p) i ≡ false) (point-unfolded fill shifts i h x k e (r .order) (a .low))
 
       pub named : Names (r .order) (dim r c) x (point r c i)
       named = given (λ m p. Names (r .order) (dim r c) x (pointAt (r .order) m (padded p) i)) (point-names fill shifts i h x k e (r .order) (a .low))

@@ -26,10 +26,11 @@ use Rattle.axis.specs.declared.point.Point.{Point}
 use Rattle.axis.specs.Coordinate.{shiftAxis, coordinate, settled, kept}
 use Rattle.axis.specs.Neighbours.{outside, firstNeighbour}
 use Rattle.axis.specs.Point.{pointAt, besideAt}
+use Rattle.axis.specs.Folded.{foldedAt}
 use Rattle.axis.proofs.Points.{point-kept}
 use Rattle.coverage.specs.Coverage.{keptAt}
 use Rattle.promises.specs.Moves.{Outside}
-use Rattle.promises.proofs.WholePoint.{Names, names, not-beside}
+use Rattle.promises.proofs.WholePoint.{Names, names, not-beside, whole-unfolded}
 
 -- ---- the size of a difference
 size : (i : ℕ) (z : ℤ) → natAbs (pos i -ℤ z) ≤ i + natAbs z
@@ -53,24 +54,30 @@ pub record Shifts (n : ℕ) (shift : Float) (s : ℤ) : Type 0 where
   pub is : Is shift s
   pub small : natAbs s < 2 ^ 20
 
-module _ (fill : Float) {n : ℕ} {shift : Float} {s : ℤ} (g : Shifts n shift s) (i : ℕ) (l : i < n) where
-  abbrev a : Axis
-  a = shiftAxis n shift 0
-
-  coordinate-is : Is (coordinate a i) (pos i -ℤ s)
+-- ---- its coordinate, in any mode
+module _ {n : ℕ} {shift : Float} {s : ℤ} (g : Shifts n shift s) (i : ℕ) (l : i < n) where
+  pub coordinate-is : Is (coordinate (shiftAxis n shift 0) i) (pos i -ℤ s)
   unfolding coordinate ofInt
   coordinate-is =
       let far = size i s in
       let moved : Is (num i ⊕ neg shift) (pos i -ℤ s) = add-is (num-is i (omega arith)) (neg-is (g .is)) (omega arith) in
       let as-is : Is ((num i ⊕ neg shift) ⊗ num 1) (pos i -ℤ s) = subst (λ (x : Float). Is x (pos i -ℤ s)) (sym (mul-one-r (num i ⊕ neg shift) (add-fits binary64 (num i) (neg shift)))) moved in
       let e = +ℤ-idr (pos i -ℤ s) in
-      subst (λ (z : ℤ). Is (coordinate a i) z) e (add-is as-is (num-is 0 (lit≤ tt)) (subst (λ (z : ℤ). natAbs z ≤ 2 ^ 53) (sym e) (omega arith)))
+      subst (λ (z : ℤ). Is (coordinate (shiftAxis n shift 0) i) z) e (add-is as-is (num-is 0 (lit≤ tt)) (subst (λ (z : ℤ). natAbs z ≤ 2 ^ 53) (sym e) (omega arith)))
 
-  unpadded : a .len ≡ n
+  pub coordinate-near : natAbs (pos i -ℤ s) ≤ 2 ^ 21
+  coordinate-near = omega (arith, size i s, g .small, g .most)
+
+  unpadded : shiftAxis n shift 0 .len ≡ n
   unpadded = omega arith
 
-  length-is : Is (num (a .len)) (pos n)
-  length-is = subst (λ (k : ℕ). Is (num (a .len)) (pos k)) unpadded (num-is (a .len) (omega arith))
+  pub length-is : Is (num (shiftAxis n shift 0 .len)) (pos n)
+  length-is = subst (λ (k : ℕ). Is (num (shiftAxis n shift 0 .len)) (pos k)) unpadded (num-is (shiftAxis n shift 0 .len) (omega arith))
+
+-- ---- in Constant
+module _ (fill : Float) {n : ℕ} {shift : Float} {s : ℤ} (g : Shifts n shift s) (i : ℕ) (l : i < n) where
+  abbrev a : Axis
+  a = shiftAxis n shift 0
 
   -- ---- where the index lies outside
   module _ (out : Outside n (pos i -ℤ s)) where
@@ -78,8 +85,8 @@ module _ (fill : Float) {n : ℕ} {shift : Float} {s : ℤ} (g : Shifts n shift 
     unfolding settled fold foldConstant
     settles-out =
         ap (λ (b : Bool). cond b (neg (num 1)) (coordinate a i)) (is-true (lt (coordinate a i) (num 0) || le (num (a .len)) (coordinate a i)) (elim out [
-          | inl b ↦ or-l (lt (coordinate a i) (num 0)) (le (num (a .len)) (coordinate a i)) (subst T (sym (lt-is coordinate-is (num-is 0 (lit≤ tt)))) b)
-          | inr b ↦ or-r (lt (coordinate a i) (num 0)) (le (num (a .len)) (coordinate a i)) (subst T (sym (le-is length-is coordinate-is)) b)
+          | inl b ↦ or-l (lt (coordinate a i) (num 0)) (le (num (a .len)) (coordinate a i)) (subst T (sym (lt-is (coordinate-is g i l) (num-is 0 (lit≤ tt)))) b)
+          | inr b ↦ or-r (lt (coordinate a i) (num 0)) (le (num (a .len)) (coordinate a i)) (subst T (sym (le-is (length-is g i l) (coordinate-is g i l))) b)
         ]))
 
     pub dropped : keptAt (Constant fill) a i ≡ false
@@ -89,20 +96,23 @@ module _ (fill : Float) {n : ℕ} {shift : Float} {s : ℤ} (g : Shifts n shift 
   -- ---- where it is index x
   module _ (x : ℕ) (lies : x < n) (e : pos i -ℤ s ≡ pos x) where
     reads : Is (coordinate a i) (pos x)
-    reads = subst (λ (z : ℤ). Is (coordinate a i) z) e coordinate-is
+    reads = subst (λ (z : ℤ). Is (coordinate a i) z) e (coordinate-is g i l)
 
     settles : Is (settled (Constant fill) a i) (pos x)
     unfolding settled
-    settles = subst (λ (y : Float). Is y (pos x)) (inside (Constant fill) (coordinate a i) (num (a .len)) (not-below reads) (le-is length-is reads ∙ lt-leb n x lies)) reads
+    settles = subst (λ (y : Float). Is y (pos x)) (inside (Constant fill) (coordinate a i) (num (a .len)) (not-below reads) (le-is (length-is g i l) reads ∙ lt-leb n x lies)) reads
 
     pub stays : keptAt (Constant fill) a i ≡ true
     unfolding keptAt
     stays = lt-is (neg-is (num-is 1 (lit≤ tt))) settles
 
+    pub point-unfolded : (order : ℕ) → order ≤ 1 → foldedAt order (Constant fill) a i ≡ false
+    point-unfolded order o = whole-unfolded (Constant fill) a i (num-is 0 (lit≤ tt)) (omega arith) settles order o (omega arith)
+
     pub point-names : (order : ℕ) → order ≤ 1 → Names order n x (pointAt order (Constant fill) a i)
     unfolding keptAt
     point-names order o =
-        subst (λ (L : ℕ). Names order L x (pointAt order (Constant fill) a i)) unpadded
+        subst (λ (L : ℕ). Names order L x (pointAt order (Constant fill) a i)) (unpadded g i l)
         (subst (λ (t : Point). Names order (a .len) x t) (point-kept order (Constant fill) a i refl stays) (names settles (omega arith) (omega arith) (omega arith) order (Constant fill) o))
 
     inside-not-beside : besideAt (Constant fill) a i ≡ false
