@@ -18,6 +18,8 @@ pub mod WholeVoxel
 pub mod Nine
 pub mod WholeRequest
 pub mod Moving
+pub mod WholeFolds
+pub mod OrderZero
 pub mod Images
 pub mod Sames
 pub mod Eight

@@ -121,12 +121,13 @@ behind-shift length pad shift l p = record { long = refl; stands = num-is pad (o
 behind-zoom : (length out pad : ℕ) → length ≤ 4096 → pad ≤ 12 → Behind (zoomAxis length out pad) length pad
 behind-zoom length out pad l p = record { long = refl; stands = num-is pad (omega arith); short = omega arith }
 
-record Admits (e : Entry) (r : Request) : Type 0 where
-  x : Behind (axesOf e r .x) (getD (r .dims) 0 0) (padding r)
-  y : Behind (axesOf e r .y) (getD (r .dims) 1 0) (padding r)
-  z : Behind (axesOf e r .z) (getD (r .dims) 2 0) (padding r)
+-- the axes of a request that refusal 3 lets pass
+pub record Admits (e : Entry) (r : Request) : Type 0 where
+  pub x : Behind (axesOf e r .x) (getD (r .dims) 0 0) (padding r)
+  pub y : Behind (axesOf e r .y) (getD (r .dims) 1 0) (padding r)
+  pub z : Behind (axesOf e r .z) (getD (r .dims) 2 0) (padding r)
 
-admits : (e : Entry) (r : Request) → Lengths (r .dims) → Admits e r
+pub admits : (e : Entry) (r : Request) → Lengths (r .dims) → Admits e r
 admits shifting r d =
     let p = pad-most r refl in
     record { x = behind-shift _ _ _ (d 0 (lit< tt) .1) p; y = behind-shift _ _ _ (d 1 (lit< tt) .1) p; z = behind-shift _ _ _ (d 2 (lit< tt) .1) p }

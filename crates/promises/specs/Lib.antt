@@ -6,6 +6,7 @@ pub mod Place
 pub mod Work
 pub mod Marks
 pub mod Moves
+pub mod Folds
 pub mod Stays
 pub mod Filings
 pub mod Files
