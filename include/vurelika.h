@@ -15,7 +15,7 @@
  *   the register MXCSR on x86-64, FPCR on Arm. A program linked with -ffast-math may flush subnormal
  *   numbers from its start on. In another environment values, codes and counts may be other ones.
  *
- * A call allocates nothing, takes at most about 405 kB of stack, and uses nothing but what it is given:
+ * A call allocates nothing, takes at most about 413 kB of stack, and uses nothing but what it is given:
  * calls from several threads do not disturb each other as long as they are lent different buffers to write.
  */
 #ifndef VURELIKA_H
@@ -24,7 +24,7 @@
 #include <stddef.h>
 #include <stdint.h>
 
-#define VURELIKA_VERSION "0.1.0"
+#define VURELIKA_VERSION "0.2.0"
 
 #ifdef __cplusplus
 extern "C" {
@@ -62,7 +62,9 @@ enum {
  *
  * A voxel is computed from order + 1 neighbours on each axis. Near an edge some of them lie outside the
  * scan, and the value of a voxel inside is read in their stead (the fold): some of the scan is then
- * counted twice. Where such a neighbour has a weight that is not 0 the code is 3, not 0.
+ * weighed twice. Where such a neighbour has a weight that is not 0 the code is 3, not 0. At order 0 there
+ * is no code 3; above order 1 the ends of an axis bear it even where nothing is moved. With prefilter a
+ * neighbour is a coefficient, which draws on its whole line; the codes speak of the neighbours alone.
  *
  * In Constant codes 0 and 3 say that the place lay in the scan: on each axis from 0 up to, not
  * including, the length. In the other modes they do not say so: a place beyond the scan is folded back
@@ -76,11 +78,11 @@ enum {
  *     mean = sum / counts[VURELIKA_COMPUTED];
  */
 enum {
-    VURELIKA_COMPUTED = 0,      /* computed from voxels of the scan, each in its own place: counts */
+    VURELIKA_COMPUTED = 0,      /* computed from voxels of the scan, each in its own place: count these */
     VURELIKA_FILLED = 1,        /* outside, in Constant: it holds the fill, bit for bit; no bone */
     VURELIKA_DEFAULTED = 2,     /* outside, in another mode: it holds 0.0; no bone */
-    VURELIKA_FOLDED = 3         /* computed, but a neighbour with a weight lay outside the scan and was
-                                   folded back: blends in a voxel that stands elsewhere */
+    VURELIKA_FOLDED = 3         /* computed, but a neighbour with a weight lay outside the scan, and a voxel
+                                   inside was read in its stead: bone, but some of it weighed twice */
 };
 
 /* How many codes there are, and places of counts. */

@@ -3,7 +3,7 @@
 //!
 //! A volume is a flat slice, last index fastest; [`npy`] reads and writes it as NumPy's files have it. A
 //! call ends in success or in a [refusal](Refusal), whatever numbers and slices it is given; it does not
-//! panic. It takes at most about 405 kB of stack. As all of Rust it counts on the default floating-point environment: numbers are
+//! panic. It takes at most about 413 kB of stack. As all of Rust it counts on the default floating-point environment: numbers are
 //! rounded to nearest, subnormal numbers are kept. C code in the same program may have changed it, by
 //! `fesetround` or by being linked with `-ffast-math`; values, codes and counts may then be other ones.
 //!

@@ -77,7 +77,7 @@ fn hold_values(words: &[u64], h: Held, from: usize, n: usize, output: &[f64], mo
 
 pub fn hold_output(words: &[u64], h: Held, at: usize, output: &[f64]) -> Held {
     let input = in_pool(words, whole_at(words, at, 12));
-    let from = in_pool(words, whole_at(words, at, 21));
+    let from = in_pool(words, whole_at(words, at, 22));
     let most = largest(words, input, input_length(words, at));
     hold_values(words, h, from, output_length(words, at), output, most)
 }

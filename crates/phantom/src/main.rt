@@ -56,7 +56,8 @@ fn exact(answer: Answer, staying: usize, wrong: u64) -> u64
 {
     let counts = counts_in(answer);
     let inside = counts.computed == staying && counts.filled == VOXELS - staying;
-    if number_in(answer) == 0 && inside && counts.defaulted == 0 && wrong == 0 {
+    let others = counts.defaulted == 0 && counts.folded == 0;
+    if number_in(answer) == 0 && inside && others && wrong == 0 {
         return 1;
     }
     0

@@ -6,7 +6,7 @@ use answer_file::words::whole_at;
 use answer_file::words::word_at;
 
 // The words of a call.
-pub const CALL: usize = 25;
+pub const CALL: usize = 26;
 
 // The places of the programs' buffers: of the input, of output and coverage, of work.
 pub const INPUT_ROOM: usize = 1024;
@@ -64,7 +64,7 @@ pub fn written(words: &[u64], at: usize, lent: usize) -> usize
 pub fn coefficients(words: &[u64], at: usize, lent: usize) -> usize
     ensures { λ r. ⌜ r ≤ lent ⌝ }
 {
-    at_most(sampling_at(words, at, 24), lent)
+    at_most(sampling_at(words, at, 25), lent)
 }
 
 fn is_in_file(words: &[u64], at: usize) -> bool {
@@ -81,7 +81,7 @@ fn fits(words: &[u64], at: usize) -> bool {
         && output_length(words, at) == whole_at(words, at, 14)
         && coverage_length(words, at) == sampling_at(words, at, 15)
         && work == sampling_at(words, at, 16)
-        && coefficients(words, at, work) == sampling_at(words, at, 24)
+        && coefficients(words, at, work) == sampling_at(words, at, 25)
 }
 
 // Whether the pool has n words from the place on that word k of the call names.
@@ -98,12 +98,12 @@ fn is_pooled(words: &[u64], at: usize) -> bool {
     let values = written(words, at, output_length(words, at));
     let codes = written(words, at, coverage_length(words, at));
     is_in_pool(words, at, 12, input_length(words, at))
-        && is_in_pool(words, at, 21, values)
-        && is_in_pool(words, at, 22, codes)
+        && is_in_pool(words, at, 22, values)
+        && is_in_pool(words, at, 23, codes)
         && is_in_pool(
             words,
             at,
-            23,
+            24,
             coefficients(words, at, work_length(words, at)),
         )
 }

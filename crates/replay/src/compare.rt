@@ -30,7 +30,8 @@ pub fn expect_answer(words: &[u64], r: Replay, at: usize, answer: Answer) -> Rep
         let counts = counts_in(answer);
         let computed = counted(numbered, counts.computed == whole_at(words, at, 18));
         let filled = counted(computed, counts.filled == whole_at(words, at, 19));
-        return counted(filled, counts.defaulted == whole_at(words, at, 20));
+        let defaulted = counted(filled, counts.defaulted == whole_at(words, at, 20));
+        return counted(defaulted, counts.folded == whole_at(words, at, 21));
     }
     numbered
 }
@@ -55,13 +56,13 @@ fn expect_buffer(
 pub fn expect_output(words: &[u64], r: Replay, at: usize, output: &[f64]) -> Replay {
     let lent = output_length(words, at);
     let filled = written(words, at, lent);
-    expect_buffer(words, r, output, lent, whole_at(words, at, 21), filled)
+    expect_buffer(words, r, output, lent, whole_at(words, at, 22), filled)
 }
 
 pub fn expect_work(words: &[u64], r: Replay, at: usize, work: &[f64]) -> Replay {
     let lent = work_length(words, at);
     let filled = coefficients(words, at, lent);
-    expect_buffer(words, r, work, lent, whole_at(words, at, 23), filled)
+    expect_buffer(words, r, work, lent, whole_at(words, at, 24), filled)
 }
 
 // The code at place k: the pool's, or none where nothing is written.
@@ -79,7 +80,7 @@ pub fn expect_coverage(
     coverage: &[u8; OUTPUT_ROOM],
 ) -> Replay {
     let lent = coverage_length(words, at);
-    let start = whole_at(words, at, 22);
+    let start = whole_at(words, at, 23);
     let filled = written(words, at, lent);
     let mut now = r;
     let mut k = 0;

@@ -4,6 +4,7 @@ ghost use mathlib.Core.Path.{_≡_};
 ghost use lib.ListN.{length};
 use crate::lanes::say_lanes;
 use crate::print::bits;
+use crate::print::say_codes;
 use crate::print::say_counts;
 use crate::print::say_numbers;
 use answer_file::print::say;
@@ -90,6 +91,22 @@ fn answer_line(
         Answer::Done(_) => say_lanes(output, coverage, lane),
         Answer::Refused(why) => say_refusal(why, is_untouched(output, coverage, work)),
     }
+    say(b"; counts");
+    say_counts(counts_in(answer));
+    end_line(n)
+}
+
+// The line of a shift of 7 by 7 by 7 voxels: the codes of the lane in the middle, to which the other
+// two axes say 0.
+pub fn middle_line(n: u64, name: &[u8], r: Request) -> u64 {
+    let input = [1.0; 343];
+    let mut output = [BLANK; 343];
+    let mut coverage = [NO_CODE; 343];
+    let mut work = [BLANK; 1];
+    let answer = shift(r, &input, &mut output, &mut coverage, &mut work);
+    say(name);
+    say(b": codes");
+    say_codes(&coverage[168..175]);
     say(b"; counts");
     say_counts(counts_in(answer));
     end_line(n)

@@ -1,11 +1,13 @@
-// Document 01, "Numbers to hold to": each request there that is not proved is run through the
-// public entries and printed. `stdout` holds the program to the document's numbers.
+// Document 01, "Numbers to hold to", and what document 02 adds to them: each request there that is not
+// proved is run through the public entries and printed. `stdout` holds the program to the documents'
+// numbers.
 ghost use mathlib.Core.Path.{_≡_};
 ghost use lib.ListN.{length};
 use answer_file::print::say;
 use answer_file::print::say_whole;
 use border::BorderMode;
 use lines::BLANK;
+use lines::middle_line;
 use lines::shift_into;
 use lines::shift_line;
 use lines::spline_filter_line;
@@ -40,6 +42,17 @@ fn ask(factors: [f64; 3], order: usize, mode: BorderMode) -> Request {
 
 fn along(shift: f64, order: usize, mode: BorderMode) -> Request {
     ask([0.0, 0.0, shift], order, mode)
+}
+
+// 7 by 7 by 7 voxels, shifted by nothing.
+fn still(order: usize) -> Request {
+    Request {
+        dims: [7, 7, 7],
+        factors: [0.0, 0.0, 0.0],
+        order,
+        prefilter: false,
+        mode: BorderMode::Constant(-1.0),
+    }
 }
 
 // A shift on the last axis.
@@ -77,6 +90,19 @@ fn other_lines(before: u64, volume: &[f64]) -> u64 {
     shift_line(n, b"Reflect, shift 8, 0, 0", far, volume)
 }
 
+// #103: where a neighbour with a weight was folded, and where none was.
+fn folded_lines(before: u64, volume: &[f64]) -> u64 {
+    let mut n = before;
+    n = along_line(n, b"Reflect, 0.5", 0.5, 1, BorderMode::Reflect, volume);
+    n = along_line(n, b"Mirror, 0.5", 0.5, 1, BorderMode::Mirror, volume);
+    n = along_line(n, b"Nearest, 0.25", 0.25, 1, BorderMode::Nearest, volume);
+    n = middle_line(n, b"axis of 7, shift 0, order 1", still(1));
+    n = middle_line(n, b"axis of 7, shift 0, order 2", still(2));
+    n = middle_line(n, b"axis of 7, shift 0, order 3", still(3));
+    n = middle_line(n, b"axis of 7, shift 0, order 4", still(4));
+    middle_line(n, b"axis of 7, shift 0, order 5", still(5))
+}
+
 // Not in the document, so that all four entries run: README.md says where these bits come from.
 fn filter_lines(before: u64, volume: &[f64]) -> u64 {
     let cubic = along(0.0, 3, BorderMode::Mirror);
@@ -89,7 +115,8 @@ fn main() {
     let volume = volume();
     let constant = constant_lines(0, &volume);
     let resampled = other_lines(constant, &volume);
-    let all = filter_lines(resampled, &volume);
+    let folded = folded_lines(resampled, &volume);
+    let all = filter_lines(folded, &volume);
     say_whole(all);
     say(b" requests\n");
 }

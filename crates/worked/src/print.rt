@@ -14,6 +14,7 @@ pub fn say_counts(counts: Counts) {
     say_count(counts.computed);
     say_count(counts.filled);
     say_count(counts.defaulted);
+    say_count(counts.folded);
 }
 
 // The bits of x; one pattern stands for every NaN.

@@ -4,7 +4,6 @@ use borrow.Author.Needs.{needs}
 use Rattle.coverage.proofs.cover.axis_code.Statement.{statement}
 use Rattle.coverage.proofs.cover.axis_code.Tie as tie
 
-
 is-kept-requires : tie.Need-is-kept-requires
 is-kept-requires c κs = search needs
 
