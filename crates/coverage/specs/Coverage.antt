@@ -1,4 +1,4 @@
--- "Coverage codes. 0: computed from input voxels. 1: dropped, Constant. 2: dropped, any other mode. The counts say how many voxels bear each code and sum to the output count. The running counts are handed back with each new code added." #103: "New code 3: kept on all axes, and on some axis a neighbour with a nonzero weight lay outside the unpadded axis before its own fold. The counts become four everywhere."
+-- "Coverage codes. 0: computed from input voxels. 1: dropped, Constant. 2: dropped, any other mode. The counts say how many voxels bear each code and sum to the output count. The running counts are handed back with each new code added." #103: "New code 3: kept on all axes, and on some axis a neighbour with a nonzero weight lay outside the unpadded axis before its own fold." "The counts become four everywhere, refusals included, and the sum rule covers four."
 use Prim.Native.Nat.{ℕ, _+_, _*_, _/_, _%_}
 use mathlib.Core.Bool.{Bool, _&&_, _||_, cond}
 use mathlib.Core.List.{List, [], _∷_}

@@ -1,4 +1,4 @@
--- "A refusal returns its number and counts 0, 0, 0; output, coverage and work hold what they held."
+-- "A refusal returns its number and counts 0, 0, 0" (four of them since #103) "; output, coverage and work hold what they held."
 use Prim.Native.Nat.{ℕ}
 use mathlib.Core.Path.{_≡_, refl}
 use mathlib.Core.List.{List}

@@ -1,4 +1,4 @@
--- "A refusal returns its number and counts 0, 0, 0; output, coverage and work hold what they held. Success returns the three counts and writes output and coverage fully. Work then begins with the filtered coefficients (needed count); the rest is untouched." #103: "The counts become four everywhere, refusals included."
+-- "A refusal returns its number and counts 0, 0, 0; output, coverage and work hold what they held. Success returns the three counts and writes output and coverage fully. Work then begins with the filtered coefficients (needed count); the rest is untouched." #103: "The counts become four everywhere, refusals included, and the sum rule covers four."
 use Prim.Native.Nat.{ℕ}
 use mathlib.Core.Bool.{cond}
 use mathlib.Core.List.{List, _++_}
