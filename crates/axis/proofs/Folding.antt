@@ -1,4 +1,4 @@
--- Whether a neighbour of an output index was folded: by what the code has at hand.
+-- Whether a neighbour of an output index was folded: by what the code has at hand, in whole numbers, and at order 0.
 use Prim.Native.Nat.{ℕ, _+_, _-_, _*_, _≤_, _<_}
 use native.Mathlib.Nat.{zero-add}
 use native.Mathlib.Omega.{arith}
@@ -52,13 +52,13 @@ module _ (order : ℕ) (mode : BorderMode) (a : Axis) (i : ℕ) {to first : Floa
   none-folded n l h = sym (some-none (foldedBy order mode a i) (order + 1) (λ k m. sym (by-hand k) ∙ h k (omega arith)))
 
 -- ---- a neighbour as a whole number
--- an axis of `length` voxels behind a pad
-pub record Behind (a : Axis) (length pad : ℕ) : Type 0 where
+-- an axis of `length` voxels, with a pad on both sides
+pub record Padded (a : Axis) (length pad : ℕ) : Type 0 where
   pub long : a .len ≡ length + 2 * pad
   pub stands : Is (a .pad) (pos pad)
   pub short : a .len ≤ 4120
 
-module _ {a : Axis} {length pad : ℕ} (b : Behind a length pad) where
+module _ {a : Axis} {length pad : ℕ} (b : Padded a length pad) where
   end-is : Is (num (a .len) ⊖ a .pad) (pos (length + pad))
   end-is =
       let l = b .long in
@@ -85,7 +85,7 @@ and-true : (p q : Bool) → (p && q) ≡ true → (p ≡ true) × (q ≡ true)
 and-true true q e = (refl, e)
 and-true false q e = absurd (true≢false (sym e))
 
-module _ (order : ℕ) (mode : BorderMode) {a : Axis} {length pad : ℕ} (b : Behind a length pad) (i : ℕ) where
+module _ (order : ℕ) (mode : BorderMode) {a : Axis} {length pad : ℕ} (b : Padded a length pad) (i : ℕ) where
   pub folded-outside : foldedAt order mode a i ≡ true → SomeOutside order mode length pad a i
   unfolding foldedAt
   folded-outside e =
@@ -101,18 +101,18 @@ module _ (order : ℕ) (mode : BorderMode) {a : Axis} {length pad : ℕ} (b : Be
       go k l true e = in-axis b (h k l e)
       go k l false e = refl
 
-  -- that of a kept one is a whole number, inside or not
+  -- each of a kept one is a whole number, inside or not
   module _ (r : Reached order a i) (keeps : kept (settled mode a i) ≡ true) where
-    beside : (k : ℕ) → k ≤ order → beyond a (unfoldedAt order mode a i k) ≡ false → InAxis length pad (unfoldedAt order mode a i k)
+    inside-at : (k : ℕ) → k ≤ order → beyond a (unfoldedAt order mode a i k) ≡ false → InAxis length pad (unfoldedAt order mode a i k)
     unfolding unfoldedAt
-    beside k l e =
+    inside-at k l e =
         let p = reached-kept order mode a i refl r keeps in
         let n = neighbour-whole order (settled mode a i) k (p .upto) (p .bound) (above-kept (settled mode a i) (p .above)) l in
         not-beyond b (n .0) (n .1) e
 
     pub unfolded-inside : foldedAt order mode a i ≡ false → AllInside order mode length pad a i
     unfolding foldedAt
-    unfolded-inside e k l w = beside k l (ap (λ (t : Bool). t && beyond a (unfoldedAt order mode a i k)) (sym w) ∙ none-at (foldedBy order mode a i) (order + 1) e k (omega arith))
+    unfolded-inside e k l w = inside-at k l (ap (λ (t : Bool). t && beyond a (unfoldedAt order mode a i k)) (sym w) ∙ none-at (foldedBy order mode a i) (order + 1) e k (omega arith))
 
     pub outside-folded : SomeOutside order mode length pad a i → foldedAt order mode a i ≡ true
     outside-folded s = go (foldedAt order mode a i) refl

@@ -17,7 +17,7 @@ use Rattle.axis.specs.Coordinate.{shiftAxis, zoomAxis}
 use Rattle.axis.specs.Point.{pointAt}
 use Rattle.axis.specs.Bookkeeping.{Reached}
 use Rattle.axis.specs.Folded.{foldedAt}
-use Rattle.axis.proofs.Folding.{Behind, folded-outside, inside-unfolded, unfolded-inside, outside-folded}
+use Rattle.axis.proofs.Folding.{Padded, folded-outside, inside-unfolded, unfolded-inside, outside-folded}
 use Rattle.coverage.specs.Coverage.{ownCode, codeBy, dropCode, dropValue, keptAt}
 use Rattle.voxels.specs.Bookkeeping.{Reaches}
 use Rattle.voxels.specs.Voxel.{tapOf, computed, voxelAt}
@@ -105,7 +105,7 @@ module _ (mode : BorderMode) where
   defaults false some v e = drops mode .defaulted e
 
 -- ---- one axis: its tests in whole numbers
-module _ (r : Request) {a : Axis} {length : ℕ} (b : Behind a length (padding r)) (i : ℕ) (reached : Reached (r .order) a i) where
+module _ (r : Request) {a : Axis} {length : ℕ} (b : Padded a length (padding r)) (i : ℕ) (reached : Reached (r .order) a i) where
   axis-inside : keptAt (r .mode) a i ≡ true → (foldedAt (r .order) (r .mode) a i ≡ false) ↔ FromInside r length a i
   unfolding keptAt
   axis-inside k = (unfolded-inside (r .order) (r .mode) b i reached k, inside-unfolded (r .order) (r .mode) b i)
@@ -115,25 +115,25 @@ module _ (r : Request) {a : Axis} {length : ℕ} (b : Behind a length (padding r
   axis-outside k = (folded-outside (r .order) (r .mode) b i, outside-folded (r .order) (r .mode) b i reached k)
 
 -- ---- the promise of `shift` and `zoom`
-behind-shift : (length pad : ℕ) (shift : Float) → length ≤ 4096 → pad ≤ 12 → Behind (shiftAxis length shift pad) length pad
-behind-shift length pad shift l p = record { long = refl; stands = num-is pad (omega arith); short = omega arith }
+padded-shift : (length pad : ℕ) (shift : Float) → length ≤ 4096 → pad ≤ 12 → Padded (shiftAxis length shift pad) length pad
+padded-shift length pad shift l p = record { long = refl; stands = num-is pad (omega arith); short = omega arith }
 
-behind-zoom : (length out pad : ℕ) → length ≤ 4096 → pad ≤ 12 → Behind (zoomAxis length out pad) length pad
-behind-zoom length out pad l p = record { long = refl; stands = num-is pad (omega arith); short = omega arith }
+padded-zoom : (length out pad : ℕ) → length ≤ 4096 → pad ≤ 12 → Padded (zoomAxis length out pad) length pad
+padded-zoom length out pad l p = record { long = refl; stands = num-is pad (omega arith); short = omega arith }
 
 -- the axes of a request that refusal 3 lets pass
 pub record Admits (e : Entry) (r : Request) : Type 0 where
-  pub x : Behind (axesOf e r .x) (getD (r .dims) 0 0) (padding r)
-  pub y : Behind (axesOf e r .y) (getD (r .dims) 1 0) (padding r)
-  pub z : Behind (axesOf e r .z) (getD (r .dims) 2 0) (padding r)
+  pub x : Padded (axesOf e r .x) (getD (r .dims) 0 0) (padding r)
+  pub y : Padded (axesOf e r .y) (getD (r .dims) 1 0) (padding r)
+  pub z : Padded (axesOf e r .z) (getD (r .dims) 2 0) (padding r)
 
 pub admits : (e : Entry) (r : Request) → Lengths (r .dims) → Admits e r
 admits shifting r d =
     let p = pad-most r refl in
-    record { x = behind-shift _ _ _ (d 0 (lit< tt) .1) p; y = behind-shift _ _ _ (d 1 (lit< tt) .1) p; z = behind-shift _ _ _ (d 2 (lit< tt) .1) p }
+    record { x = padded-shift _ _ _ (d 0 (lit< tt) .1) p; y = padded-shift _ _ _ (d 1 (lit< tt) .1) p; z = padded-shift _ _ _ (d 2 (lit< tt) .1) p }
 admits zooming r d =
     let p = pad-most r refl in
-    record { x = behind-zoom _ _ _ (d 0 (lit< tt) .1) p; y = behind-zoom _ _ _ (d 1 (lit< tt) .1) p; z = behind-zoom _ _ _ (d 2 (lit< tt) .1) p }
+    record { x = padded-zoom _ _ _ (d 0 (lit< tt) .1) p; y = padded-zoom _ _ _ (d 1 (lit< tt) .1) p; z = padded-zoom _ _ _ (d 2 (lit< tt) .1) p }
 
 module _ (e : Entry) (r : Request) (input output : List Float) (coverage : List ℕ) (work : List Float) (done : numberIn (call e r input output coverage work .answer) ≡ 0) (i j k : ℕ) (h : Inside (outputDims e r) i j k) where
   abbrev x : Axis

@@ -17,7 +17,7 @@ use Rattle.axis.specs.Coordinate.{isNearest}
 use Rattle.axis.specs.Point.{besideAt, someBeside}
 use Rattle.axis.specs.Folded.{foldedAt}
 use Rattle.axis.specs.Bookkeeping.{Reached}
-use Rattle.axis.proofs.Folding.{Behind, order-0-unfolded}
+use Rattle.axis.proofs.Folding.{Padded, order-0-unfolded}
 use Rattle.coverage.specs.Coverage.{keptAt, ownCode}
 use Rattle.voxels.specs.Bookkeeping.{Reaches}
 use Rattle.request.specs.declared.Request.{Request}
@@ -43,7 +43,7 @@ module _ (r : Request) (input output : List Float) (coverage : List ℕ) (work :
     unpadded = ap (λ (b : Bool). cond (b && isNearest (r .mode)) 12 0) (no-filter (r .prefilter) (r .order) (omega (arith, zero)))
 
     -- one axis of it
-    axis-never : {a : Axis} {length : ℕ} → Behind a length (padding r) → Reaches (r .order) a → someBeside (r .mode) a ≡ false → (i : ℕ) → i < a .out → keptAt (r .mode) a i ≡ true → foldedAt (r .order) (r .mode) a i ≡ true → ⊥
+    axis-never : {a : Axis} {length : ℕ} → Padded a length (padding r) → Reaches (r .order) a → someBeside (r .mode) a ≡ false → (i : ℕ) → i < a .out → keptAt (r .mode) a i ≡ true → foldedAt (r .order) (r .mode) a i ≡ true → ⊥
     unfolding keptAt someBeside
     axis-never {a} b reaches beside i l k f =
         let at : Reached 0 a i = subst (λ (o : ℕ). Reached o a i) zero (reaches .each i l) in

@@ -29,7 +29,7 @@ use Rattle.axis.specs.Weights.{base, leading, completed, sumFrom, buildSplines}
 use Rattle.axis.specs.Neighbours.{firstNeighbour, outside, splineMode, neighbour, neighbourIndex}
 use Rattle.axis.specs.Point.{neighbours, keptPoint}
 use Rattle.axis.specs.Folded.{weighs, beyond, weightAt, unfoldedAt, foldedBy, foldedAt, AllInside}
-use Rattle.axis.proofs.Folding.{Behind, beyond-at, inside-unfolded}
+use Rattle.axis.proofs.Folding.{Padded, beyond-at, inside-unfolded}
 use Rattle.axis.proofs.Weights.{whole-linear}
 use Rattle.axis.proofs.Inside.{index-inside}
 use Rattle.axis.proofs.Points.{placeOf, kept-inside}
@@ -133,8 +133,8 @@ zero-weightless = refl
 
 -- ---- whether a neighbour was folded there: voxel x alone has a weight
 module _ (mode : BorderMode) (a : Axis) (i : ℕ) {x : ℕ} (pad : Is (a .pad) (pos 0)) (short : a .len ≤ 4120) (is : Is (settled mode a i) (pos x)) where
-  behind : Behind a (a .len) 0
-  behind = record { long = omega arith; stands = pad; short = short }
+  unpadded : Padded a (a .len) 0
+  unpadded = record { long = omega arith; stands = pad; short = short }
 
   module _ (most : x ≤ 2 ^ 32) (order : ℕ) (low : order ≤ 1) where
     first-at : (order < 1 → x ≤ 2 ^ 20) → Is (unfoldedAt order mode a i 0) (pos x)
@@ -147,7 +147,7 @@ module _ (mode : BorderMode) (a : Axis) (i : ℕ) {x : ℕ} (pad : Is (a .pad) (
 
   -- inside the axis none was
   pub whole-unfolded : (order : ℕ) → order ≤ 1 → x < a .len → foldedAt order mode a i ≡ false
-  whole-unfolded order low l = inside-unfolded order mode behind i inside-at
+  whole-unfolded order low l = inside-unfolded order mode unpadded i inside-at
     where
       inside-at : AllInside order mode (a .len) 0 a i
       inside-at zero k w = (x, l, subst (λ (n : ℕ). Is (unfoldedAt order mode a i 0) (pos n)) (sym (zero-add x)) (first-at (omega arith) order low (λ _. omega arith)))
@@ -159,5 +159,5 @@ module _ (mode : BorderMode) (a : Axis) (i : ℕ) {x : ℕ} (pad : Is (a .pad) (
   unfolding foldedAt
   whole-folded l most =
       let weight : weighs (weightAt 1 mode a i 0) ≡ true = ap weighs (weight-at most 1 (lit≤ tt) 0) ∙ one-weighs in
-      let beyond-it : beyond a (unfoldedAt 1 mode a i 0) ≡ true = beyond-at behind (first-at most 1 (lit≤ tt) (λ h. absurd (omega (arith, h)))) ∙ (λ t. le-ltb x 0 zero-le t || le-leb (a .len + 0) x (omega arith) t) in
+      let beyond-it : beyond a (unfoldedAt 1 mode a i 0) ≡ true = beyond-at unpadded (first-at most 1 (lit≤ tt) (λ h. absurd (omega (arith, h)))) ∙ (λ t. le-ltb x 0 zero-le t || le-leb (a .len + 0) x (omega arith) t) in
       some-at (foldedBy 1 mode a i) 2 0 (lit≤ tt) (λ t. weight t && beyond-it t)
