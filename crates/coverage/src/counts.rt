@@ -1,5 +1,6 @@
 // How many voxels bear each code.
 ghost use mathlib.Core.Path.{_≡_};
+ghost use mathlib.Core.Bool.{cond};
 ghost use Prim.Native.Nat.{_<_, _≤_};
 ghost use lib.ListN.{length};
 ghost use Rattle.coverage.specs.Coverage.{none, withCode, countsOf, total};
@@ -28,19 +29,22 @@ impl Counts {
         requires { ⌜ total self < 18446744073709551615 ⌝ }
         ensures { λ r. ⌜ r ≡ withCode self code ⌝ }
     {
-        if code < 2 {
-            if code == 0 {
-                self.computed += 1;
-            } else {
-                self.filled += 1;
-            }
-        } else if code == 2 {
-            self.defaulted += 1;
+        if code == 0 {
+            self.computed += 1;
         } else {
-            self.folded += 1;
+            self.filled += once(code == 1);
+            self.defaulted += once(code == 2);
+            self.folded += once(code > 2);
         }
         self
     }
+}
+
+// 1 or 0: added without a branch, so that codes may change from voxel to voxel at no cost.
+fn once(yes: bool) -> usize
+    ensures { λ r. ⌜ r ≡ cond yes 1 0 ⌝ }
+{
+    if yes { 1 } else { 0 }
 }
 
 // The counts of a coverage.
