@@ -82,7 +82,7 @@ enum {
     VURELIKA_FILLED = 1,        /* outside, in Constant: it holds the fill, bit for bit; no bone */
     VURELIKA_DEFAULTED = 2,     /* outside, in another mode: it holds 0.0; no bone */
     VURELIKA_FOLDED = 3         /* computed, but a neighbour with a weight lay outside the scan, and a voxel
-                                   inside was read in its stead: bone, but some of it weighed twice */
+                                   inside was read in its stead: leave these out, or report them apart */
 };
 
 /* How many codes there are, and places of counts. */

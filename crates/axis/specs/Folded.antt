@@ -31,11 +31,11 @@ weighs w = not (eq w (num 0))
 abbrev pub beyond : Axis → Float → Bool
 beyond a x = lt x (a .pad) || le (num (a .len) ⊖ a .pad) x
 
--- of neighbour k
+-- neighbour k has a nonzero weight and lies outside
 abbrev pub foldedBy : ℕ → BorderMode → Axis → ℕ → ℕ → Bool
 foldedBy order mode a i k = weighs (weightAt order mode a i k) && beyond a (unfoldedAt order mode a i k)
 
--- of some neighbour of output index i
+-- some neighbour of output index i does
 unfoldable pub foldedAt : ℕ → BorderMode → Axis → ℕ → Bool
 unfolding someBelow weightAt unfoldedAt
 foldedAt order mode a i = someBelow (foldedBy order mode a i) (order + 1)

@@ -2,9 +2,8 @@
 use Prim.Native.Nat.{ℕ, zero, suc, _+_, _*_, _≤_, _<_}
 use native.Mathlib.Omega.{arith}
 use mathlib.Core.Path.{_≡_, refl, sym, subst, _∙_}
-use mathlib.Core.Bool.{Bool, true, false, _&&_, _||_}
+use mathlib.Core.Bool.{_&&_, _||_}
 use mathlib.Core.List.{List, [], _∷_}
-use lib.Dec.{lit≤}
 use lib.ListN.{length, getD}
 use lib.Ieee.{Float}
 use Rattle.lists.proofs.Tabulated.{length-tabulate, getD-tabulate}
@@ -12,8 +11,7 @@ use Rattle.axis.specs.declared.coordinate.Axis.{Axis}
 use Rattle.axis.specs.Folded.{foldedAt}
 use Rattle.border.specs.declared.BorderMode.{BorderMode}
 use Rattle.coverage.specs.declared.counts.Counts.{Counts}
-use Rattle.border.specs.declared.BorderMode.the-variants.{Constant, Mirror, Nearest, Reflect, Wrap}
-use Rattle.coverage.specs.Coverage.{keptAt, codeBy, ownCode, ownCodes, xOf, yOf, zOf, none, withCode, countsFrom, countsOf, total}
+use Rattle.coverage.specs.Coverage.{keptAt, ownCode, ownCodes, xOf, yOf, zOf, none, withCode, countsFrom, countsOf, total}
 use Rattle.voxels.specs.Voxel.{values}
 use Rattle.coverage.proofs.Counting.{total-is}
 use Rattle.request.specs.declared.Request.{Request}
@@ -21,6 +19,7 @@ use Rattle.resample.specs.Call.{Call, numberIn, countsIn, coefficients}
 use Rattle.promises.specs.Entries.{Entry, call, axesOf}
 use Rattle.promises.specs.Marks.{bearing}
 use Rattle.promises.proofs.Succeeding.{succeeds}
+use Rattle.promises.proofs.Marked.{upto-three}
 
 -- ---- the counts of a list of codes
 pub record Tallied (c : Counts) (before : Counts) (l : List ℕ) : Type 0 where
@@ -41,15 +40,6 @@ tallied c (x ∷ xs) h = one x (h 0 (omega arith)) (tallied (withCode c x) xs (�
     one (suc (suc (suc zero))) l t = record { computed = omega (arith, t .computed); filled = omega (arith, t .filled); defaulted = omega (arith, t .defaulted); folded = omega (arith, t .folded) }
     one (suc (suc (suc (suc x)))) l t = absurd (omega (arith, l))
 
-code-most : (mode : BorderMode) (all some : Bool) → codeBy mode all some ≤ 3
-code-most mode true true = lit≤ tt
-code-most mode true false = lit≤ tt
-code-most (Constant fill) false some = lit≤ tt
-code-most Mirror false some = lit≤ tt
-code-most Nearest false some = lit≤ tt
-code-most Reflect false some = lit≤ tt
-code-most Wrap false some = lit≤ tt
-
 module _ (order : ℕ) (mode : BorderMode) (xa ya za : Axis) where
   codes-length : length (ownCodes order mode xa ya za) ≡ xa .out * (ya .out * za .out)
   unfolding ownCodes
@@ -57,7 +47,7 @@ module _ (order : ℕ) (mode : BorderMode) (xa ya za : Axis) where
 
   code-at-most : (i j k : ℕ) → ownCode order mode xa ya za i j k ≤ 3
   unfolding ownCode
-  code-at-most i j k = code-most mode (keptAt mode xa i && keptAt mode ya j && keptAt mode za k) (foldedAt order mode xa i || foldedAt order mode ya j || foldedAt order mode za k)
+  code-at-most i j k = upto-three mode (keptAt mode xa i && keptAt mode ya j && keptAt mode za k) (foldedAt order mode xa i || foldedAt order mode ya j || foldedAt order mode za k)
 
   codes-most : (m : ℕ) → m < length (ownCodes order mode xa ya za) → getD (ownCodes order mode xa ya za) m 0 ≤ 3
   unfolding ownCodes

@@ -1,7 +1,7 @@
 -- Code 0 exactly where all three axes are kept and every neighbour that counts lies inside the unpadded axis, 3 exactly where all three are kept and one lies outside; where it is 1 the mode is Constant and the voxel is its fill, bit for bit; where it is 2 the mode is another and the voxel is 0.0.
-use Prim.Native.Nat.{ℕ, _+_, _*_, _≤_, _<_}
+use Prim.Native.Nat.{ℕ, _*_, _≤_}
 use native.Mathlib.Omega.{arith}
-use mathlib.Core.Path.{_≡_, refl, sym, ap, _∙_, subst}
+use mathlib.Core.Path.{_≡_, refl, sym, subst}
 use mathlib.Core.Logic.{_↔_, _⊎_, inl, inr, ⊎-elim, ⊎-map}
 use mathlib.Core.Bool.{Bool, true, false, _&&_, _||_, cond, true≢false}
 use mathlib.Core.List.{List}
@@ -19,7 +19,6 @@ use Rattle.axis.specs.Bookkeeping.{Reached}
 use Rattle.axis.specs.Folded.{foldedAt}
 use Rattle.axis.proofs.Folding.{Padded, folded-outside, inside-unfolded, unfolded-inside, outside-folded}
 use Rattle.coverage.specs.Coverage.{ownCode, codeBy, dropCode, dropValue, keptAt}
-use Rattle.voxels.specs.Bookkeeping.{Reaches}
 use Rattle.voxels.specs.Voxel.{tapOf, computed, voxelAt}
 use Rattle.request.specs.declared.Request.{Request}
 use Rattle.request.specs.Sizes.{padding}
@@ -28,7 +27,7 @@ use Rattle.request.proofs.Requests.{pad-most}
 use Rattle.resample.specs.Call.{numberIn, coefficients}
 use Rattle.promises.specs.Entries.{Entry, shifting, zooming, call, axesOf, outputDims}
 use Rattle.promises.specs.Place.{Inside, voxel, code}
-use Rattle.promises.specs.Marks.{Keeps, FromInside, FromOutside, Means}
+use Rattle.promises.specs.Marks.{FromInside, FromOutside, Means}
 use Rattle.promises.proofs.Succeeding.{Succeeds, succeeds}
 use Rattle.promises.proofs.Places.{code-is, voxel-is}
 
@@ -70,7 +69,7 @@ module _ (mode : BorderMode) where
   not-three : dropCode mode ≡ 3 → ⊥
   not-three e = omega (arith, drops mode .upto)
 
-  pub zero-exactly : (x y z f g h : Bool) → (codeBy mode (x && y && z) (f || g || h) ≡ 0) ↔ (AllOf true x y z × AllOf false f g h)
+  zero-exactly : (x y z f g h : Bool) → (codeBy mode (x && y && z) (f || g || h) ≡ 0) ↔ (AllOf true x y z × AllOf false f g h)
   zero-exactly false y z f g h = (λ e. absurd (not-zero e), λ p. absurd (true≢false (sym (p .0 .0))))
   zero-exactly true false z f g h = (λ e. absurd (not-zero e), λ p. absurd (true≢false (sym (p .0 .1))))
   zero-exactly true true false f g h = (λ e. absurd (not-zero e), λ p. absurd (true≢false (sym (p .0 .2))))
@@ -88,12 +87,12 @@ module _ (mode : BorderMode) where
   three-exactly true true true false false true = (λ e. ((refl, refl, refl), inr (inr refl)), λ p. refl)
   three-exactly true true true false false false = (λ e. absurd (omega (arith, e)), λ p. absurd (⊎-elim (λ q. true≢false (sym q)) (⊎-elim (λ q. true≢false (sym q)) (λ q. true≢false (sym q))) (p .1)))
 
-  -- where it is 1 or 2
-  upto-three : (all some : Bool) → codeBy mode all some ≤ 3
+  pub upto-three : (all some : Bool) → codeBy mode all some ≤ 3
   upto-three true true = lit≤ tt
   upto-three true false = lit≤ tt
   upto-three false some = omega (arith, drops mode .upto)
 
+  -- where it is 1 or 2
   fills : (all some : Bool) (v : Float) → codeBy mode all some ≡ 1 → mode ≡ Constant (cond all v (dropValue mode))
   fills true true v e = absurd (omega (arith, e))
   fills true false v e = absurd (omega (arith, e))

@@ -6,8 +6,6 @@ use mathlib.Core.Logic.{⊎-elim}
 use mathlib.Core.Bool.{Bool, true, false, _&&_, _||_, cond, true≢false}
 use mathlib.Core.List.{List}
 use lib.IntN.{pos}
-use lib.Dec.{eqb}
-use lib.ListN.{getD}
 use lib.Ieee.{Float}
 use borrow.Author.Tests.{eq-eqb}
 use Rattle.exact.specs.Whole.{Is}
