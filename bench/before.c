@@ -37,12 +37,12 @@ static void find(void *opened, const char *name, void *function)
 }
 
 /* Without prefilter, so that no work is needed. */
-static uint32_t resample(const struct library *of, resampler *function, size_t order, size_t side,
-                         const double factors[3], double *to, size_t places)
+static uint32_t resample(const struct library *of, resampler *function, size_t order, uint32_t mode,
+                         size_t side, const double factors[3], double *to, size_t places)
 {
     uint64_t counts[VURELIKA_CODES];
 
-    return function(side, side, side, factors[0], factors[1], factors[2], order, 0, VURELIKA_MIRROR, 0.0, input,
+    return function(side, side, side, factors[0], factors[1], factors[2], order, 0, mode, 0.0, input,
                     side * side * side, to, places, coverage, places, NULL, 0, counts,
                     of->counts_len);
 }
@@ -57,7 +57,7 @@ static struct library open_library(const char *path)
     find(opened, "vurelika_shift", &found.shift);
     find(opened, "vurelika_zoom", &found.zoom);
     /* before document 02's #103 counts had three places */
-    if (resample(&found, found.shift, 1, 2, still, output[0], 8) == VURELIKA_BUFFER)
+    if (resample(&found, found.shift, 1, VURELIKA_MIRROR, 2, still, output[0], 8) == VURELIKA_BUFFER)
         found.counts_len = 3;
     return found;
 }
@@ -76,7 +76,15 @@ static uint32_t shift(const struct library *of, size_t order, size_t side, doubl
 {
     static const double by[3] = {0.3, 0.3, 0.3};
 
-    return resample(of, of->shift, order, side, by, to, side * side * side);
+    return resample(of, of->shift, order, VURELIKA_MIRROR, side, by, to, side * side * side);
+}
+
+/* In Constant, by so much that of a side of 96 three quarters are filled. */
+static uint32_t fill(const struct library *of, size_t order, size_t side, double *to)
+{
+    static const double by[3] = {0.0, 0.0, 72.0};
+
+    return resample(of, of->shift, order, VURELIKA_CONSTANT, side, by, to, side * side * side);
 }
 
 /* To 98 by 95 by 94, from a side of 96. */
@@ -84,7 +92,7 @@ static uint32_t zoom(const struct library *of, size_t order, size_t side, double
 {
     static const double by[3] = {1.02, 0.99, 0.98};
 
-    return resample(of, of->zoom, order, side, by, to, 98 * 95 * 94);
+    return resample(of, of->zoom, order, VURELIKA_MIRROR, side, by, to, 98 * 95 * 94);
 }
 
 /* A column: its title, what is called, and how often in a turn. */
@@ -151,6 +159,7 @@ int main(int words, char **word)
     static const struct column resamplers[] = {
         {"shift, 96^3", shift, MOST, 1},
         {"zoom, 96^3", zoom, MOST, 1},
+        {"3/4 filled, 96^3", fill, MOST, 1},
     };
 
     if (words != 3)
