@@ -1,24 +1,25 @@
--- Whether a neighbour of an output index was folded: by what the code has at hand, in whole numbers, and at order 0.
-use Prim.Native.Nat.{ℕ, _+_, _-_, _*_, _≤_, _<_}
-use native.Mathlib.Nat.{zero-add}
+-- Whether a neighbour of an output index was folded: by what the code has at hand, in whole numbers, and at orders 0 and 1.
+use Prim.Native.Nat.{ℕ, _+_, _-_, _*_, _≤_, _<_, zero-le}
+use native.Mathlib.Nat.{zero-add, sub-zero}
 use native.Mathlib.Omega.{arith}
 use mathlib.Core.Path.{_≡_, refl, sym, ap, _∙_, subst}
 use mathlib.Core.Bool.{Bool, true, false, _&&_, _||_, true≢false}
 use mathlib.Core.List.{List}
-use lib.Dec.{ltb, leb}
+use lib.Dec.{ltb, leb, lit≤}
 use lib.IntN.{ℤ, pos, negsuc}
 use lib.ListN.{getD}
 use lib.Ieee.{Float, nan, lt, le, eq}
 use borrow.Author.Tests.{le-ltb, lt-leb, ltb-false, leb-false}
 use Rattle.exact.specs.Rounded.{_⊕_, _⊖_, num}
 use Rattle.exact.specs.Whole.{Is}
+use Rattle.exact.specs.Floor.{floorF}
 use Rattle.exact.proofs.Is.{lt-is, le-is}
-use Rattle.exact.proofs.Naturals.{num-is, minus}
+use Rattle.exact.proofs.Naturals.{num-is, plus, minus}
 use Rattle.lists.proofs.Somes.{some-none, some-at, none-at, some-found, or-false}
 use Rattle.border.specs.declared.BorderMode.{BorderMode}
 use Rattle.axis.specs.declared.coordinate.Axis.{Axis}
 use Rattle.axis.specs.Coordinate.{settled, kept}
-use Rattle.axis.specs.Weights.{buildSplines}
+use Rattle.axis.specs.Weights.{base, buildSplines}
 use Rattle.axis.specs.Neighbours.{firstNeighbour, outside}
 use Rattle.axis.specs.Point.{besideAt}
 use Rattle.axis.specs.Folded.{weighs, beyond, weightAt, unfoldedAt, foldedBy, foldedAt, InAxis, AllInside, SomeOutside}
@@ -55,18 +56,21 @@ module _ (order : ℕ) (mode : BorderMode) (a : Axis) (i : ℕ) {to first : Floa
 -- an axis of `length` voxels, with a pad on both sides
 pub record Padded (a : Axis) (length pad : ℕ) : Type 0 where
   pub long : a .len ≡ length + 2 * pad
-  pub stands : Is (a .pad) (pos pad)
+  pub stands : a .pad ≡ num pad
   pub short : a .len ≤ 4120
 
 module _ {a : Axis} {length pad : ℕ} (b : Padded a length pad) where
+  pub pad-is : Is (a .pad) (pos pad)
+  pad-is = subst (λ (x : Float). Is x (pos pad)) (sym (b .stands)) (num-is pad (omega (arith, b .long, b .short)))
+
   end-is : Is (num (a .len) ⊖ a .pad) (pos (length + pad))
   end-is =
       let l = b .long in
       let e : a .len - pad ≡ length + pad = omega arith in
-      subst (λ (n : ℕ). Is (num (a .len) ⊖ a .pad) (pos n)) e (minus (num-is (a .len) (omega (arith, b .short))) (b .stands) (omega arith) (omega (arith, b .short)))
+      subst (λ (n : ℕ). Is (num (a .len) ⊖ a .pad) (pos n)) e (minus (num-is (a .len) (omega (arith, b .short))) pad-is (omega arith) (omega (arith, b .short)))
 
   pub beyond-at : {x : Float} {n : ℕ} → Is x (pos n) → beyond a x ≡ (ltb n pad || leb (length + pad) n)
-  beyond-at h = λ t. lt-is h (b .stands) t || le-is end-is h t
+  beyond-at h = λ t. lt-is h pad-is t || le-is end-is h t
 
   pub in-axis : {x : Float} → InAxis length pad x → beyond a x ≡ false
   in-axis (j, l, h) = beyond-at h ∙ (λ t. le-ltb (pad + j) pad (omega arith) t || lt-leb (length + pad) (pad + j) (omega arith) t)
@@ -78,7 +82,7 @@ module _ {a : Axis} {length pad : ℕ} (b : Padded a length pad) where
       let high = leb-false (length + pad) n (o .1) in
       let k : n ≡ pad + (n - pad) = omega arith in
       (n - pad, omega arith, subst (λ (m : ℕ). Is x (pos m)) k h)
-  not-beyond {x} (negsuc c) h e = absurd (true≢false (sym (lt-is h (b .stands)) ∙ or-false (lt x (a .pad)) (le (num (a .len) ⊖ a .pad) x) e .0))
+  not-beyond {x} (negsuc c) h e = absurd (true≢false (sym (lt-is h pad-is) ∙ or-false (lt x (a .pad)) (le (num (a .len) ⊖ a .pad) x) e .0))
 
 -- ---- the neighbours of an output index
 and-true : (p q : Bool) → (p && q) ≡ true → (p ≡ true) × (q ≡ true)
@@ -122,7 +126,7 @@ module _ (order : ℕ) (mode : BorderMode) {a : Axis} {length pad : ℕ} (b : Pa
         go false e = absurd (s .outside (unfolded-inside e (s .k) (s .upto) (s .weight)))
 
 -- ---- order 0: a kept index that is not refused reads its one voxel inside
-pub order-0-unfolded : (mode : BorderMode) (a : Axis) (i : ℕ) → Is (a .pad) (pos 0) → Reached 0 a i → kept (settled mode a i) ≡ true → besideAt mode a i ≡ false → foldedAt 0 mode a i ≡ false
+pub order-0-unfolded : (mode : BorderMode) (a : Axis) (i : ℕ) → a .pad ≡ num 0 → Reached 0 a i → kept (settled mode a i) ≡ true → besideAt mode a i ≡ false → foldedAt 0 mode a i ≡ false
 unfolding besideAt unfoldedAt
 order-0-unfolded mode a i pad r keeps e =
     let p = reached-kept 0 mode a i refl r keeps in
@@ -131,3 +135,11 @@ order-0-unfolded mode a i pad r keeps e =
     inside-unfolded 0 mode {a = a} {length = a .len} {pad = 0} (record { long = omega arith; stands = pad; short = r .most }) i (λ k l w.
     let n = neighbour-stands 0 (a .len) to k (p .upto) (p .most) (p .bound) (above-kept to (p .above)) l none in
     (n .0, n .1, subst (λ (m : ℕ). Is (firstNeighbour 0 to ⊕ num k) (pos m)) (sym (zero-add (n .0))) (n .2)))
+
+-- ---- order 1: a coordinate between two voxels of the axis reads both
+pub order-1-unfolded : (mode : BorderMode) {a : Axis} {length : ℕ} → Padded a length 0 → (i : ℕ) {x : ℕ} → Is (floorF (settled mode a i)) (pos x) → x + 1 < length → foldedAt 1 mode a i ≡ false
+unfolding unfoldedAt firstNeighbour base
+order-1-unfolded mode {a} b i {x} is l = inside-unfolded 1 mode b i (λ k m w. (x + k, omega arith, subst (λ (n : ℕ). Is (unfoldedAt 1 mode a i k) (pos n)) (sym (zero-add (x + k))) (plus first (num-is k (omega arith)) (omega (arith, b .long, b .short)))))
+  where
+    first : Is (firstNeighbour 1 (settled mode a i)) (pos x)
+    first = subst (λ (n : ℕ). Is (floorF (settled mode a i) ⊖ num 0) (pos n)) (sub-zero x) (minus is (num-is 0 (lit≤ tt)) zero-le (omega (arith, b .long, b .short)))

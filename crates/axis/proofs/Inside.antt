@@ -21,7 +21,7 @@ use Rattle.exact.proofs.Casts.{toUnsigned-is, unsigned-asks}
 use Rattle.exact.proofs.Above.{Above, floor-above, half-above}
 use Rattle.lists.proofs.Somes.{or-false}
 use Rattle.border.specs.declared.BorderMode.{BorderMode}
-use Rattle.border.specs.declared.BorderMode.the-variants.{Constant, Mirror, Nearest, Reflect, Wrap}
+use Rattle.border.specs.declared.BorderMode.the-variants.{Constant, Mirror, Nearest, Reflect, Wrap, Replicate}
 use Rattle.border.specs.Fold.{fold}
 use Rattle.border.specs.Landing.{FarEven, OnVoxel, Lands}
 use Rattle.border.proofs.Landing.{sides, not-far, fold-lands}
@@ -87,6 +87,7 @@ module _ (first : Float) (c m : ℕ) (most : c ≤ 2 ^ 31 + 1) (small : m ≤ 3)
   on-voxel Nearest far l = l .follows (λ z. z)
   on-voxel Reflect far l = l .follows far
   on-voxel Wrap far l = l .follows (λ z. z)
+  on-voxel Replicate far l = l .follows (λ z. z)
 
   folded-inside : (mode : BorderMode) (k L : ℕ) → k ≤ 5 → 2 ≤ L → L ≤ 4120 → (i : ℕ) × (i < L) × Is (fold (splineMode mode) (first ⊕ num k) (num L)) (pos i)
   folded-inside mode k L l two top =

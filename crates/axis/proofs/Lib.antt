@@ -6,4 +6,5 @@ pub mod Reaches
 pub mod Inside
 pub mod Points
 pub mod Folding
+pub mod Settling
 pub mod Worked

@@ -26,7 +26,8 @@ use Rattle.axis.specs.Coordinate.{settled, kept}
 use Rattle.axis.specs.Weights.{buildSplines}
 use Rattle.axis.specs.Neighbours.{firstNeighbour, outside, splineMode, neighbour, neighbourIndex}
 use Rattle.axis.specs.Bookkeeping.{Indexes}
-use Rattle.axis.specs.Point.{empty, neighbours, keptPoint, pointAt, besideAt}
+use Rattle.axis.specs.declared.point.Point.{Point}
+use Rattle.axis.specs.Point.{isKeptMark, empty, neighbours, keptPoint, pointAt, besideAt}
 use Rattle.axis.specs.Bookkeeping.{Reached, Kept}
 use Rattle.axis.proofs.Reaches.{settled-within}
 use Rattle.axis.proofs.Inside.{index-asks}
@@ -111,7 +112,7 @@ module _ (order : ℕ) (mode : BorderMode) (a : Axis) (i : ℕ) {to : Float} (e 
     upto = r .upto;
     least = r .least;
     most = r .most;
-    bound = subst (λ (x : Float). Within 30 x) (sym e) (settled-within mode a i (r .bound) (r .least) (r .most));
+    bound = subst (λ (x : Float). Within 30 x) (sym e) (settled-within mode r);
     above = of-true (kept to) t;
   }
 
@@ -122,6 +123,16 @@ module _ (order : ℕ) (mode : BorderMode) (a : Axis) (i : ℕ) {to : Float} (e 
   pub point-dropped : kept to ≡ false → empty 1 ≡ pointAt order mode a i
   unfolding pointAt
   point-dropped t = simp (ap (λ (x : Float). kept x) (sym e) ∙ t)
+
+  -- the mark says whether it is kept
+  pub kept-by-mark : {t : Point} → t ≡ pointAt order mode a i → isKeptMark (t .mark) ≡ kept (settled mode a i)
+  unfolding pointAt keptPoint
+  kept-by-mark {t} e = ap (λ (p : Point). isKeptMark (p .mark)) e ∙ go (kept (settled mode a i)) (eqb order 0 && outside order (a .len) (firstNeighbour order (settled mode a i))) _ _
+    where
+      go : (k o : Bool) (w : List Float) (n : List ℕ) → isKeptMark (cond k (cond o (empty 2) (record { mark = 0; weight = w; at = n })) (empty 1) .mark) ≡ k
+      go true true w n = refl
+      go true false w n = refl
+      go false o w n = refl
 
 -- ---- refusal 9 at an output index, by the coordinate and the first neighbour at hand
 module _ (mode : BorderMode) (a : Axis) (i : ℕ) where

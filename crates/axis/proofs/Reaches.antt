@@ -16,30 +16,31 @@ use Rattle.exact.proofs.Naturals.{num-is, minus, times}
 use Rattle.exact.proofs.Withins.{within-mono, add-within, sub-within, neg-within, mul-within, div-within, is-within, W-within, least-of-is}
 use Rattle.exact.proofs.Above.{floor-quotient}
 use Rattle.border.specs.declared.BorderMode.{BorderMode}
-use Rattle.border.specs.declared.BorderMode.the-variants.{Constant, Mirror, Nearest, Reflect, Wrap}
-use Rattle.border.specs.Fold.{under, over, mirrorPeriod, reflectPeriod, reflectUnder, fold, foldConstant, foldMirror, foldNearest, foldReflect, foldWrap}
+use Rattle.border.specs.declared.BorderMode.the-variants.{Constant, Mirror, Nearest, Reflect, Wrap, Replicate}
+use Rattle.border.specs.Fold.{under, over, mirrorPeriod, reflectPeriod, reflectUnder, fold, foldConstant, foldMirror, foldNearest, foldReflect, foldWrap, foldReplicate}
 use Rattle.border.proofs.Periods.{size-multiple}
 use Rattle.axis.specs.declared.coordinate.Axis.{Axis}
-use Rattle.axis.specs.Coordinate.{coordinate, settled, isNearest, shiftAxis, zoomAxis}
+use Rattle.axis.specs.Coordinate.{unpadded, coordinate, unpaddedLength, folds, settledBy, settled, shiftAxis, zoomAxis}
+use Rattle.axis.specs.Bookkeeping.{Reached}
 
 -- ---- the coordinate itself
 num-within : (n k : ℕ) → k ≤ 53 → n ≤ 2 ^ k → Within k (num n)
 num-within n k K h = W-within (pos n) k K h
 
-pub shift-reaches : (length : ℕ) (shift : Float) (pad i : ℕ) → Within 20 shift → pad ≤ 12 → i ≤ 4096 → Within 26 (coordinate (shiftAxis length shift pad) i)
-unfolding coordinate
-shift-reaches length shift pad i s p l =
-    within-mono {j = 22} (lit≤ tt)
-    (add-within {k = 21} (lit≤ tt) (mul-within {j = 21} {k = 0} (lit≤ tt) (add-within {k = 20} (lit≤ tt) (num-within i 20 (lit≤ tt) (le-trans l (lit≤ tt))) (neg-within s)) (num-within 1 0 (lit≤ tt) (lit≤ tt)))
-    (num-within pad 21 (lit≤ tt) (le-trans p (lit≤ tt))))
+pub pad-within : {pad : ℕ} → pad ≤ 12 → Within 25 (num pad)
+pad-within {pad} p = num-within pad 25 (lit≤ tt) (le-trans p (lit≤ tt))
 
-pub zoom-reaches : (length out pad i : ℕ) → length ≤ 4096 → 2 ≤ out → out ≤ 4096 → pad ≤ 12 → i ≤ 4096 → Within 26 (coordinate (zoomAxis length out pad) i)
-unfolding coordinate
-zoom-reaches length out pad i n two o p l =
-    add-within {k = 25} (lit≤ tt)
-    (mul-within {j = 13} {k = 12} (lit≤ tt) (add-within {k = 12} (lit≤ tt) (num-within i 12 (lit≤ tt) l) (num-within 0 12 (lit≤ tt) (lit≤ tt)))
-    (div-within (num (out - 1)) (lit≤ tt) (num-within (length - 1) 12 (lit≤ tt) (omega arith)) (least-of-is (num (out - 1)) (num-is (out - 1) (omega arith)) (omega arith))))
-    (num-within pad 25 (lit≤ tt) (le-trans p (lit≤ tt)))
+pub shift-reaches : (length : ℕ) (shift : Float) (pad i : ℕ) → Within 20 shift → i ≤ 4096 → Within 25 (unpadded (shiftAxis length shift pad) i)
+unfolding unpadded
+shift-reaches length shift pad i s l =
+    within-mono {j = 21} (lit≤ tt)
+    (mul-within {j = 21} {k = 0} (lit≤ tt) (add-within {k = 20} (lit≤ tt) (num-within i 20 (lit≤ tt) (le-trans l (lit≤ tt))) (neg-within s)) (num-within 1 0 (lit≤ tt) (lit≤ tt)))
+
+pub zoom-reaches : (length out pad i : ℕ) → length ≤ 4096 → 2 ≤ out → out ≤ 4096 → i ≤ 4096 → Within 25 (unpadded (zoomAxis length out pad) i)
+unfolding unpadded
+zoom-reaches length out pad i n two o l =
+    mul-within {j = 13} {k = 12} (lit≤ tt) (add-within {k = 12} (lit≤ tt) (num-within i 12 (lit≤ tt) l) (num-within 0 12 (lit≤ tt) (lit≤ tt)))
+    (div-within (num (out - 1)) (lit≤ tt) (num-within (length - 1) 12 (lit≤ tt) (omega arith)) (least-of-is (num (out - 1)) (num-is (out - 1) (omega arith)) (omega arith)))
 
 -- ---- the whole periods in a coordinate
 product-most : (b n q P : ℕ) → n ≤ suc (suc q) → q * b ≤ P → b * n ≤ P + (b + b)
@@ -81,6 +82,10 @@ module _ {x period : Float} (b : ℕ) (w : Within 26 x) (h : Is period (pos b)) 
 choice : (k : ℕ) (b : Bool) {x y : Float} → Within k x → Within k y → Within k (cond b x y)
 choice k true h g = h
 choice k false h g = g
+
+replicate-within : {idx len : Float} → Within 29 idx → Within 28 len → Within 29 (foldReplicate idx len)
+unfolding foldReplicate
+replicate-within {idx} {len} w l = choice 29 (lt idx (num 0)) (num-within 0 29 (lit≤ tt) zero-le) (choice 29 (lt (len ⊖ num 1) idx) (sub-within {k = 28} (lit≤ tt) l (num-within 1 28 (lit≤ tt) (lit≤ tt))) w)
 
 module _ {idx len : Float} (L : ℕ) (w : Within 26 idx) (is : Is len (pos L)) (least : 2 ≤ L) (most : L ≤ 4120) where
   one : Within 29 (num 1)
@@ -150,7 +155,25 @@ module _ {idx len : Float} (L : ℕ) (w : Within 26 idx) (is : Is len (pos L)) (
   fold-within Nearest = nearest-within
   fold-within Reflect = reflect-within
   fold-within Wrap = wrap-within
+  fold-within Replicate = within-mono {j = 29} (lit≤ tt) (replicate-within (within-mono (lit≤ tt) w) (within-mono (lit≤ tt) len-within))
 
-pub settled-within : (mode : BorderMode) (a : Axis) (i : ℕ) → Within 26 (coordinate a i) → 2 ≤ a .len → a .len ≤ 4120 → Within 30 (settled mode a i)
-unfolding settled
-settled-within mode a i w l m = choice 30 (isNearest mode) (within-mono {j = 26} (lit≤ tt) w) (fold-within (a .len) w (num-is (a .len) (le-trans m (lit≤ tt))) l m mode)
+pub settled-within : (mode : BorderMode) {order : ℕ} {a : Axis} {i : ℕ} → Reached order a i → Within 30 (settled mode a i)
+unfolding settled coordinate fold
+settled-within mode {order} {a} {i} r = go mode
+  where
+    to : Within 26 (unpadded a i ⊕ a .pad)
+    to = add-within {k = 25} (lit≤ tt) (r .bound) (r .pad)
+
+    folded : (mode : BorderMode) → Within 30 (fold mode (unpadded a i ⊕ a .pad) (num (a .len)))
+    folded mode = fold-within (a .len) to (num-is (a .len) (omega (arith, r .most))) (r .least) (r .most) mode
+
+    before : Within 28 (unpaddedLength a)
+    before = sub-within {k = 27} (lit≤ tt) (num-within (a .len) 27 (lit≤ tt) (omega (arith, r .most))) (within-mono {j = 26} (lit≤ tt) (mul-within {j = 1} {k = 25} (lit≤ tt) (num-within 2 1 (lit≤ tt) (lit≤ tt)) (r .pad)))
+
+    go : (mode : BorderMode) → Within 30 (settledBy (folds mode) mode a i)
+    go (Constant fill) = folded (Constant fill)
+    go Mirror = folded Mirror
+    go Nearest = within-mono {j = 26} (lit≤ tt) to
+    go Reflect = folded Reflect
+    go Wrap = folded Wrap
+    go Replicate = add-within {k = 29} (lit≤ tt) (replicate-within (within-mono {j = 25} (lit≤ tt) (r .bound)) before) (within-mono {j = 25} (lit≤ tt) (r .pad))

@@ -8,7 +8,7 @@ use Rattle.exact.specs.Rounded.{num}
 use Rattle.exact.specs.Within.{Within}
 use Rattle.limits.specs.Limits.{longest, longestPadded}
 use Rattle.axis.specs.declared.coordinate.Axis.{Axis}
-use Rattle.axis.specs.Coordinate.{coordinate, kept}
+use Rattle.axis.specs.Coordinate.{unpadded, kept}
 
 -- what refusals 3 and 4 let pass: a length up to 4,096, and a factor above 0 and up to 4,096
 pub record Zooms (length : ℕ) (factor : Float) : Type 0 where
@@ -25,7 +25,8 @@ pub record Reached (order : ℕ) (a : Axis) (i : ℕ) : Type 0 where
   pub upto : order ≤ 5
   pub least : 2 ≤ a .len
   pub most : a .len ≤ longestPadded
-  pub bound : Within 26 (coordinate a i)
+  pub bound : Within 25 (unpadded a i)
+  pub pad : Within 25 (a .pad)
 
 -- and a coordinate that is kept there
 pub record Kept (order len : ℕ) (to : Float) : Type 0 where

@@ -3,22 +3,25 @@ use Prim.Native.Nat.{ℕ, _+_, _-_, _*_}
 use mathlib.Core.Bool.{Bool, true, false, _&&_, cond}
 use lib.Dec.{ltb}
 use lib.Ieee.{Float, neg, lt}
-use Rattle.exact.specs.Rounded.{_⊕_, _⊗_, _⊘_, num}
+use Rattle.exact.specs.Rounded.{_⊕_, _⊖_, _⊗_, _⊘_, num}
 use Rattle.border.specs.Fold.{fold}
 use Rattle.border.specs.declared.BorderMode.{BorderMode}
-use Rattle.border.specs.declared.BorderMode.the-variants.{Constant, Mirror, Nearest, Reflect, Wrap}
+use Rattle.border.specs.declared.BorderMode.the-variants.{Constant, Mirror, Nearest, Reflect, Wrap, Replicate}
 use Rattle.axis.specs.declared.coordinate.Axis.{Axis}
+use Rattle.axis.specs.declared.coordinate.When.{When}
+use Rattle.axis.specs.declared.coordinate.When.the-variants.{Never, WithPad, BeforePad}
 
-abbrev pub isNearest : BorderMode → Bool
-isNearest (Constant fill) = false
-isNearest Mirror = false
-isNearest Nearest = true
-isNearest Reflect = false
-isNearest Wrap = false
+-- "Pad is 12.0 for Nearest with prefilter and order above 1, else 0.0; the axis length is then 24 longer." #104: a sixth mode "with the same prefilter and pad as Nearest".
+abbrev pub pads : BorderMode → Bool
+pads (Constant fill) = false
+pads Mirror = false
+pads Nearest = true
+pads Reflect = false
+pads Wrap = false
+pads Replicate = true
 
--- "Pad is 12.0 for Nearest with prefilter and order above 1, else 0.0; the axis length is then 24 longer."
 abbrev pub padOf : BorderMode → Bool → ℕ → ℕ
-padOf mode prefilter order = cond (prefilter && ltb 1 order && isNearest mode) 12 0
+padOf mode prefilter order = cond (prefilter && ltb 1 order && pads mode) 12 0
 
 -- "Shift negates each shift and has ratio 1.0."
 abbrev pub shiftAxis : ℕ → Float → ℕ → Axis
@@ -28,13 +31,34 @@ shiftAxis length shift pad = record { len = length + 2 * pad; out = length; shif
 abbrev pub zoomAxis : ℕ → ℕ → ℕ → Axis
 zoomAxis length out pad = record { len = length + 2 * pad; out = out; shift = num 0; ratio = num (length - 1) ⊘ num (out - 1); pad = num pad }
 
-unfoldable pub coordinate : Axis → ℕ → Float
-coordinate a i = (num i ⊕ a .shift) ⊗ a .ratio ⊕ a .pad
+-- the coordinate, and the length, before the pad
+unfoldable pub unpadded : Axis → ℕ → Float
+unpadded a i = (num i ⊕ a .shift) ⊗ a .ratio
 
--- "Every mode but Nearest folds the coordinate by `map_coordinates`. Nearest is not folded here."
+abbrev pub unpaddedLength : Axis → Float
+unpaddedLength a = num (a .len) ⊖ num 2 ⊗ a .pad
+
+unfoldable pub coordinate : Axis → ℕ → Float
+unfolding unpadded
+coordinate a i = unpadded a i ⊕ a .pad
+
+-- "Every mode but Nearest folds the coordinate by `map_coordinates`. Nearest is not folded here." #104: a sixth mode "clamps the coordinate to 0 and L - 1 before anything else", and "the clamp then takes the unpadded coordinate".
+abbrev pub folds : BorderMode → When
+folds (Constant fill) = WithPad
+folds Mirror = WithPad
+folds Nearest = Never
+folds Reflect = WithPad
+folds Wrap = WithPad
+folds Replicate = BeforePad
+
+abbrev pub settledBy : When → BorderMode → Axis → ℕ → Float
+settledBy Never mode a i = coordinate a i
+settledBy WithPad mode a i = fold mode (coordinate a i) (num (a .len))
+settledBy BeforePad mode a i = fold mode (unpadded a i) (unpaddedLength a) ⊕ a .pad
+
 unfoldable pub settled : BorderMode → Axis → ℕ → Float
-unfolding coordinate fold
-settled mode a i = cond (isNearest mode) (coordinate a i) (fold mode (coordinate a i) (num (a .len)))
+unfolding unpadded coordinate fold
+settled mode a i = settledBy (folds mode) mode a i
 
 -- "In every mode the coordinate that now stands is dropped on that axis if it is at or below -1; above -1 it is kept."
 abbrev pub kept : Float → Bool

@@ -5,6 +5,7 @@ pub mod Weights
 pub mod Neighbours
 pub mod Point
 pub mod Folded
+pub mod Settled
 pub mod Worked
 -- The code's own bookkeeping. No promise speaks of it.
 pub mod Bookkeeping

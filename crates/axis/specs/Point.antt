@@ -1,6 +1,6 @@
 -- "One record per output index of an axis carries up to six weights and six neighbours." With it stands its mark.
 use Prim.Native.Nat.{ℕ}
-use mathlib.Core.Bool.{Bool, _&&_, cond}
+use mathlib.Core.Bool.{Bool, not, _&&_, cond}
 use mathlib.Core.List.{List}
 use lib.Dec.{leb, eqb}
 use lib.ListN.{replicate}
@@ -18,6 +18,9 @@ use Rattle.axis.specs.Neighbours.{firstNeighbour, outside, neighbourInde
 -- a record that reads nothing: mark 1 is dropped, mark 2 is kept at order 0 but outside, where refusal 9 stands
 abbrev pub empty : ℕ → Point
 empty mark = record { mark = mark; weight = replicate 6 (num 0); at = replicate 6 0 }
+
+abbrev pub isKeptMark : ℕ → Bool
+isKeptMark mark = not (eqb mark 1)
 
 -- the order + 1 neighbours, and 0 in the other of six places
 unfoldable pub neighbours : BorderMode → ℕ → ℕ → Float → List ℕ

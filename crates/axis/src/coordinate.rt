@@ -3,7 +3,7 @@ ghost use mathlib.Core.Path.{_≡_};
 ghost use Prim.Native.Nat.{_≤_};
 ghost use Rattle.limits.specs.Limits.{longest};
 ghost use Rattle.exact.specs.Rounded.{num};
-ghost use Rattle.axis.specs.Coordinate.{coordinate, settled, isNearest, padOf, shiftAxis, zoomAxis};
+ghost use Rattle.axis.specs.Coordinate.{folds, settled, pads, padOf, shiftAxis, zoomAxis};
 ghost use Rattle.axis.specs.Length.{outputLength};
 ghost use Rattle.axis.specs.Bookkeeping.{Zooms};
 use border::BorderMode;
@@ -25,8 +25,9 @@ pub fn float_of(n: usize) -> f64
     std::num::nearest_u64_to_f64(n as u64)
 }
 
-fn is_nearest(mode: BorderMode) -> bool
-    ensures { λ r. ⌜ r ≡ isNearest mode ⌝ }
+// Whether the filter of a mode reads edge copies.
+fn pads(mode: BorderMode) -> bool
+    ensures { λ r. ⌜ r ≡ pads mode ⌝ }
 {
     match mode {
         BorderMode::Constant(_) => false,
@@ -34,6 +35,7 @@ fn is_nearest(mode: BorderMode) -> bool
         BorderMode::Nearest => true,
         BorderMode::Reflect => false,
         BorderMode::Wrap => false,
+        BorderMode::Replicate => true,
     }
 }
 
@@ -43,7 +45,7 @@ pub fn pad_of(mode: BorderMode, prefilter: bool, order: usize) -> usize
 {
     if prefilter {
         if order > 1 {
-            if is_nearest(mode) {
+            if pads(mode) {
                 return 12;
             }
         }
@@ -77,15 +79,39 @@ pub fn zoom_axis(length: usize, out: usize, pad: usize) -> Axis
     }
 }
 
-// The coordinate of an output index, settled by the mode: folded, but for Nearest.
+// When a mode folds a coordinate: never, with its pad, or before the pad is added.
+enum When {
+    Never,
+    WithPad,
+    BeforePad,
+}
+
+fn folds(mode: BorderMode) -> When
+    ensures { λ r. ⌜ r ≡ folds mode ⌝ }
+{
+    match mode {
+        BorderMode::Constant(_) => When::WithPad,
+        BorderMode::Mirror => When::WithPad,
+        BorderMode::Nearest => When::Never,
+        BorderMode::Reflect => When::WithPad,
+        BorderMode::Wrap => When::WithPad,
+        BorderMode::Replicate => When::BeforePad,
+    }
+}
+
+// The coordinate of an output index, settled by the mode.
 pub fn settled_at(a: Axis, i: usize, mode: BorderMode) -> f64
     ensures { λ r. ⌜ r ≡ settled mode a i ⌝ }
 {
-    let to = (float_of(i) + a.shift) * a.ratio + a.pad;
-    if is_nearest(mode) {
-        return to;
+    let unpadded = (float_of(i) + a.shift) * a.ratio;
+    let when = folds(mode);
+    match when {
+        When::Never => unpadded + a.pad,
+        When::WithPad => map_coordinates(unpadded + a.pad, float_of(a.len), mode),
+        When::BeforePad => {
+            map_coordinates(unpadded, float_of(a.len) - 2.0 * a.pad, mode) + a.pad
+        }
     }
-    map_coordinates(to, float_of(a.len), mode)
 }
 
 // Zoom's output length.

@@ -3,7 +3,7 @@ ghost use mathlib.Core.Path.{_≡_};
 ghost use Prim.Native.Nat.{ℕ, _≤_, _<_};
 ghost use Rattle.axis.specs.Neighbours.{firstNeighbour, outside, splineMode, neighbour, neighbourIndex};
 ghost use Rattle.axis.specs.Bookkeeping.{Indexes};
-ghost use Rattle.axis.specs.Point.{pointAt, keptPoint, neighbours, besideAt, someBeside};
+ghost use Rattle.axis.specs.Point.{isKeptMark, pointAt, keptPoint, neighbours, besideAt, someBeside};
 ghost use Rattle.axis.specs.Bookkeeping.{Reached, Kept};
 use crate::coordinate::Axis;
 use crate::coordinate::float_of;
@@ -18,6 +18,13 @@ pub struct Point {
     pub mark: u8,
     pub weight: [f64; 6],
     pub at: [usize; 6],
+}
+
+// Whether a record with this mark is one of a kept index.
+pub fn is_kept_mark(mark: u8) -> bool
+    ensures { λ r. ⌜ r ≡ isKeptMark mark ⌝ }
+{
+    mark != 1
 }
 
 // What an output index of an axis reads.
@@ -76,7 +83,7 @@ fn is_outside(first: f64, len: usize, order: usize) -> bool
     first + float_of(order) >= float_of(len)
 }
 
-// The mode that folds the neighbours: Constant and Wrap have no fold of their own there.
+// The mode that folds the neighbours: Constant, Wrap and Replicate have no fold of their own there.
 fn spline_mode(mode: BorderMode) -> BorderMode
     ensures { λ r. ⌜ r ≡ splineMode mode ⌝ }
 {
@@ -86,6 +93,7 @@ fn spline_mode(mode: BorderMode) -> BorderMode
         BorderMode::Nearest => BorderMode::Nearest,
         BorderMode::Reflect => BorderMode::Reflect,
         BorderMode::Wrap => BorderMode::Mirror,
+        BorderMode::Replicate => BorderMode::Nearest,
     }
 }
 

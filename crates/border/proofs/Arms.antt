@@ -5,8 +5,8 @@ use lib.Ieee.{Float, neg, lt, le}
 use Rattle.exact.specs.Rounded.{_⊕_, _⊖_, _⊗_, _⊘_, num}
 use Rattle.exact.specs.Floor.{floorF}
 use Rattle.border.specs.declared.BorderMode.{BorderMode}
-use Rattle.border.specs.declared.BorderMode.the-variants.{Constant, Mirror, Nearest, Reflect, Wrap}
-use Rattle.border.specs.Fold.{over, mirrorPeriod, reflectPeriod, reflectUnder, fold, foldConstant, foldMirror, foldNearest, foldReflect, foldWrap}
+use Rattle.border.specs.declared.BorderMode.the-variants.{Constant, Mirror, Nearest, Reflect, Wrap, Replicate}
+use Rattle.border.specs.Fold.{over, mirrorPeriod, reflectPeriod, reflectUnder, fold, foldConstant, foldMirror, foldNearest, foldReflect, foldWrap, foldReplicate}
 
 -- `under` and `over` with the floor at hand
 abbrev pub underBy : Float → Float → Float → Float
@@ -15,14 +15,24 @@ underBy period idx f = period ⊗ f ⊕ idx
 abbrev pub overBy : Float → Float → Float → Float
 overBy period idx f = idx ⊖ period ⊗ f
 
--- a coordinate from 0 up to, not including, the length stays as it is
-pub inside : (mode : BorderMode) (idx len : Float) → lt idx (num 0) ≡ false → le len idx ≡ false → idx ≡ fold mode idx len
-unfolding fold foldConstant foldMirror foldNearest foldReflect foldWrap
+-- whether a coordinate lies past the far end: at the length or above, in Replicate above the last voxel
+abbrev pub past : BorderMode → Float → Float → Bool
+past (Constant fill) idx len = le len idx
+past Mirror idx len = le len idx
+past Nearest idx len = le len idx
+past Reflect idx len = le len idx
+past Wrap idx len = le len idx
+past Replicate idx len = lt (len ⊖ num 1) idx
+
+-- a coordinate from 0 to the far end stays as it is
+pub inside : (mode : BorderMode) (idx len : Float) → lt idx (num 0) ≡ false → past mode idx len ≡ false → idx ≡ fold mode idx len
+unfolding fold foldConstant foldMirror foldNearest foldReflect foldWrap foldReplicate
 inside (Constant fill) idx len p q = simp (p, q)
 inside Mirror idx len p q = simp (p, q)
 inside Nearest idx len p q = simp (p, q)
 inside Reflect idx len p q = simp (p, q)
 inside Wrap idx len p q = simp (p, q)
+inside Replicate idx len p q = simp (p, q)
 
 module _ (idx len : Float) where
   pub constant-below : lt idx (num 0) ≡ true → neg (num 1) ≡ foldConstant idx len
@@ -40,6 +50,14 @@ module _ (idx len : Float) where
   pub nearest-beyond : lt idx (num 0) ≡ false → le len idx ≡ true → len ⊖ num 1 ≡ foldNearest idx len
   unfolding foldNearest
   nearest-beyond p q = simp (p, q)
+
+  pub replicate-below : lt idx (num 0) ≡ true → num 0 ≡ foldReplicate idx len
+  unfolding foldReplicate
+  replicate-below p = simp p
+
+  pub replicate-beyond : lt idx (num 0) ≡ false → lt (len ⊖ num 1) idx ≡ true → len ⊖ num 1 ≡ foldReplicate idx len
+  unfolding foldReplicate
+  replicate-beyond p q = simp (p, q)
 
   pub wrap-below : lt idx (num 0) ≡ true → idx ⊕ (len ⊖ num 1) ⊗ (floorF (neg idx ⊘ (len ⊖ num 1)) ⊕ num 1) ≡ foldWrap idx len
   unfolding foldWrap

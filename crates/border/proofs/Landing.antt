@@ -18,7 +18,7 @@ use Rattle.exact.specs.Floor.{floorF}
 use Rattle.exact.proofs.Is.{neg-is, lt-is, le-is}
 use Rattle.exact.proofs.Naturals.{natAbs-neg, num-is, plus, times, minus, minus-more, neg-plus, negated, not-below, lt-negatives, le-negatives}
 use Rattle.border.specs.declared.BorderMode.{BorderMode}
-use Rattle.border.specs.declared.BorderMode.the-variants.{Constant, Mirror, Nearest, Reflect, Wrap}
+use Rattle.border.specs.declared.BorderMode.the-variants.{Constant, Mirror, Nearest, Reflect, Wrap, Replicate}
 use Rattle.border.specs.Fold.{under, over, mirrorPeriod, reflectPeriod, reflectUnder, fold, foldMirror, foldReflect, foldWrap}
 use Rattle.border.specs.Manual.{Rule}
 use Rattle.border.specs.Landing.{FarEven, OnVoxel, Lands}
@@ -37,8 +37,23 @@ module _ (idx len : Float) (L : ℕ) (least : 2 ≤ L) (most : L ≤ 4120) (is :
   at-length : {a : ℕ} → Is idx (pos a) → L ≤ a → le len idx ≡ true
   at-length {a} h l = le-is is h ∙ le-leb L a l
 
-  stays : (mode : BorderMode) {a : ℕ} → Is idx (pos a) → a < L → Is (fold mode idx len) (pos a)
-  stays mode {a} h l = subst (λ (r : Float). Is r (pos a)) (arms.inside mode idx len (not-below h) (le-is is h ∙ lt-leb L a l)) h
+  last-voxel : Is (len ⊖ num 1) (pos (L - 1))
+  last-voxel = minus is (num-is 1 (lit≤ tt)) (omega arith) (omega arith)
+
+  -- a coordinate on a voxel stays there
+  pub stays : (mode : BorderMode) {a : ℕ} → Is idx (pos a) → a < L → Is (fold mode idx len) (pos a)
+  stays mode {a} h l = subst (λ (r : Float). Is r (pos a)) (arms.inside mode idx len (not-below h) (not-past mode)) h
+    where
+      before-length : le len idx ≡ false
+      before-length = le-is is h ∙ lt-leb L a l
+
+      not-past : (mode : BorderMode) → arms.past mode idx len ≡ false
+      not-past (Constant fill) = before-length
+      not-past Mirror = before-length
+      not-past Nearest = before-length
+      not-past Reflect = before-length
+      not-past Wrap = before-length
+      not-past Replicate = lt-is last-voxel h ∙ le-ltb (L - 1) a (omega arith)
 
   -- ---- Mirror
   mirror-period : Is (mirrorPeriod len) (pos (2 * L - 2))
@@ -162,9 +177,6 @@ module _ (idx len : Float) (L : ℕ) (least : 2 ≤ L) (most : L ≤ 4120) (is :
           less i = omega arith
 
   -- ---- Wrap
-  wrap-period : Is (len ⊖ num 1) (pos (L - 1))
-  wrap-period = minus is (num-is 1 (lit≤ tt)) (omega arith) (omega arith)
-
   -- below 0 the fold gives the next multiple less a
   wrap-below : (a : ℕ) → Is idx (negℤ (pos a)) → lt idx (num 0) ≡ true → a ≤ 2 ^ 32 → Is (foldWrap idx len) (pos (L - 1 - a % (L - 1)))
   wrap-below a h t m =
@@ -172,13 +184,13 @@ module _ (idx len : Float) (L : ℕ) (least : 2 ≤ L) (most : L ≤ 4120) (is :
       let q = a / p in
       let small : a % p < p = mod-lt a (omega arith) in
       let up : a + (p - a % p) ≡ p * suc q = next-multiple a (a % p) p q (parts a p) (le-of-lt small) in
-      let one-more : Is (floorF (neg idx ⊘ (len ⊖ num 1)) ⊕ num 1) (pos (suc q)) = subst (λ (j : ℕ). Is (floorF (neg idx ⊘ (len ⊖ num 1)) ⊕ num 1) (pos j)) (add-one q) (plus (quotient-is a p m (omega arith) (omega arith) wrap-period h) (num-is 1 (lit≤ tt)) (omega (arith, div-le-self a p))) in
+      let one-more : Is (floorF (neg idx ⊘ (len ⊖ num 1)) ⊕ num 1) (pos (suc q)) = subst (λ (j : ℕ). Is (floorF (neg idx ⊘ (len ⊖ num 1)) ⊕ num 1) (pos j)) (add-one q) (plus (quotient-is a p m (omega arith) (omega arith) last-voxel h) (num-is 1 (lit≤ tt)) (omega (arith, div-le-self a p))) in
       let e : p * suc q - a ≡ p - a % p = omega arith in
       subst (λ (x : Float). Is x (pos (p - a % p))) (arms.wrap-below idx len t)
-      (subst (λ (j : ℕ). Is (idx ⊕ (len ⊖ num 1) ⊗ (floorF (neg idx ⊘ (len ⊖ num 1)) ⊕ num 1)) (pos j)) e (neg-plus h (times wrap-period one-more (omega arith)) (omega arith) (omega arith)))
+      (subst (λ (j : ℕ). Is (idx ⊕ (len ⊖ num 1) ⊗ (floorF (neg idx ⊘ (len ⊖ num 1)) ⊕ num 1)) (pos j)) e (neg-plus h (times last-voxel one-more (omega arith)) (omega arith) (omega arith)))
 
   wrap-beyond : (a : ℕ) → Is idx (pos a) → L ≤ a → a ≤ 2 ^ 32 → Is (foldWrap idx len) (pos (a % (L - 1)))
-  wrap-beyond a h l m = subst (λ (x : Float). Is x (pos (a % (L - 1)))) (arms.wrap-beyond idx len (not-below h) (at-length h l)) (over-is a (L - 1) m (omega arith) (omega arith) wrap-period h)
+  wrap-beyond a h l m = subst (λ (x : Float). Is x (pos (a % (L - 1)))) (arms.wrap-beyond idx len (not-below h) (at-length h l)) (over-is a (L - 1) m (omega arith) (omega arith) last-voxel h)
 
 -- ---- coordinates that the cases of `Marked` and of `Overlap` shut out
 not-below-zero : (a : ℕ) → pos a <ℤ pos 0 → ⊥
@@ -211,6 +223,7 @@ within mode {r} a L h l i = go mode
       follows = λ _. on-voxel Wrap L (pos a) a i (up-own (L - 1) a a 0 (at-once (L - 1))) h refl;
       chosen = λ _. record { below = λ b. absurd (not-below-zero a b); beyond = λ b. absurd (not-beyond a L i b); inside = λ _ _. h };
     }
+    go Replicate = record { marked = λ z. absurd z; follows = λ _. on-voxel Replicate L (pos a) a i (inl refl) h refl; chosen = tt }
 
 beyond : (mode : BorderMode) {idx len : Float} (a L : ℕ) → Is idx (pos a) → Is len (pos L) → 2 ≤ L → L ≤ 4120 → a ≤ 2 ^ 32 → L ≤ a → Lands mode L (pos a) (fold mode idx len)
 unfolding fold
@@ -222,7 +235,7 @@ beyond (Constant fill) {idx} {len} a L h k l m d o = record {
 beyond Mirror {idx} {len} a L h k l m d o = record { marked = λ z. absurd z; follows = λ _. mirror-beyond idx len L l m k a h o d; chosen = tt }
 beyond Nearest {idx} {len} a L h k l m d o = record {
   marked = λ z. absurd z;
-  follows = λ _. on-voxel Nearest L (pos a) (L - 1) (omega arith) (inr (inr (record { le = le→leb L a o }, refl))) (wrap-period idx len L l m k) (arms.nearest-beyond idx len (not-below h) (at-length idx len L l m k h o));
+  follows = λ _. on-voxel Nearest L (pos a) (L - 1) (omega arith) (inr (inr (record { le = le→leb L a o }, refl))) (last-voxel idx len L l m k) (arms.nearest-beyond idx len (not-below h) (at-length idx len L l m k h o));
   chosen = tt;
 }
 beyond Reflect {idx} {len} a L h k l m d o = record { marked = λ f. absurd (not-far a L l f); follows = λ _. reflect-beyond idx len L l m k a h o d; chosen = tt }
@@ -238,6 +251,13 @@ beyond Wrap {idx} {len} a L h k l m d o =
         beyond = λ _. subst (λ (j : ℕ). Is (foldWrap idx len) (pos j)) (whole-remainder p a (natAbs (z .times)) (multiple z)) r;
         inside = λ _ b. absurd (not-le-of-lt (ltb→lt a L (b .lt)) o);
       };
+    }
+beyond Replicate {idx} {len} a L h k l m d o =
+    let last = last-voxel idx len L l m k in
+    record {
+      marked = λ z. absurd z;
+      follows = λ _. on-voxel Replicate L (pos a) (L - 1) (omega arith) (inr (inr (record { le = le→leb L a o }, refl))) last (arms.replicate-beyond idx len (not-below h) (lt-is last h ∙ lt-ltb (L - 1) a (omega arith)));
+      chosen = tt;
     }
 
 below : (mode : BorderMode) {idx len : Float} (c L : ℕ) → Is idx (negsuc c) → Is len (pos L) → 2 ≤ L → L ≤ 4120 → suc c ≤ 2 ^ 32 → Lands mode L (negsuc c) (fold mode idx len)
@@ -270,6 +290,11 @@ below mode {idx} {len} c L h k l m d = go mode
             inside = λ b _. absurd (b .le);
           };
         }
+    go Replicate = record {
+      marked = λ z. absurd z;
+      follows = λ _. on-voxel Replicate L (negsuc c) 0 (omega arith) (inr (inl (record { lt = tt }, refl))) (num-is 0 (lit≤ tt)) (arms.replicate-below idx len t);
+      chosen = tt;
+    }
 
 -- ---- the theorem
 pub fold-lands : (mode : BorderMode) {idx len : Float} (n : ℤ) (L : ℕ) → Is idx n → Is len (pos L) → 2 ≤ L → L ≤ 4120 → natAbs n ≤ 2 ^ 32 → Lands mode L n (fold mode idx len)

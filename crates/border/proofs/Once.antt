@@ -12,8 +12,8 @@ use Rattle.exact.specs.Whole.{modZ}
 use Rattle.exact.proofs.Is.{diff-neg, diff-pos}
 use Rattle.exact.proofs.Modulo.{mod-le}
 use Rattle.border.specs.declared.BorderMode.{BorderMode}
-use Rattle.border.specs.declared.BorderMode.the-variants.{Constant, Mirror, Nearest, Reflect, Wrap}
-use Rattle.border.specs.Manual.{Apart, Rule, Stands}
+use Rattle.border.specs.declared.BorderMode.the-variants.{Constant, Mirror, Nearest, Reflect, Wrap, Replicate}
+use Rattle.border.specs.Manual.{Apart, Replicated, Rule, Stands}
 use Rattle.border.specs.Once.{One, None, Ends, Once}
 use Rattle.border.proofs.Landing.{sides}
 use Rattle.border.proofs.Periods.{turned, up-own, down-own, parts, next-multiple}
@@ -147,27 +147,27 @@ module _ (L : ℕ) (n : ℤ) (least : 2 ≤ L) where
         only = λ j s. elim (wrap-rest j s) [ inl e ↦ sym e | inr e ↦ absurd (off (subst (λ (m : ℕ). Apart p n (pos m)) (e .1) apart)) ];
       }
 
--- ---- Nearest
+-- ---- Nearest and Replicate
 same : {a b : ℕ} → pos a ≡ pos b → a ≡ b
 same e = ap natAbs e
 
-nearest-once : (L : ℕ) (n : ℤ) → 2 ≤ L → One Nearest L n
-nearest-once L (negsuc c) least = record {
+edge-once : (mode : BorderMode) (L : ℕ) (n : ℤ) → 2 ≤ L → ((i : ℕ) → Replicated L n i → Rule mode L n i) → ((i : ℕ) → Rule mode L n i → Replicated L n i) → One mode L n
+edge-once mode L (negsuc c) least to of = record {
   i = 0;
-  stands = record { voxel = omega arith; rule = inr (inl (ltZ-yes tt, refl)) };
-  only = λ j s. elim (s .rule) [ inl e ↦ absurd (pos-ne-negsuc j c (sym e)) | inr o ↦ elim o [ inl h ↦ h .1 | inr h ↦ absurd (h .0 .le) ] ];
+  stands = record { voxel = omega arith; rule = to 0 (inr (inl (ltZ-yes tt, refl))) };
+  only = λ j s. elim (of j (s .rule)) [ inl e ↦ absurd (pos-ne-negsuc j c (sym e)) | inr o ↦ elim o [ inl h ↦ h .1 | inr h ↦ absurd (h .0 .le) ] ];
 }
-nearest-once L (pos a) least =
+edge-once mode L (pos a) least to of =
     elim (sides a L) [
       | inl l ↦ record {
         i = a;
-        stands = record { voxel = l; rule = inl refl };
-        only = λ j s. elim (s .rule) [ inl e ↦ sym (same e) | inr o ↦ elim o [ inl h ↦ omega (arith, ltb→lt a 0 (h .0 .lt)) | inr h ↦ omega (arith, leb→le L a (h .0 .le)) ] ];
+        stands = record { voxel = l; rule = to a (inl refl) };
+        only = λ j s. elim (of j (s .rule)) [ inl e ↦ sym (same e) | inr o ↦ elim o [ inl h ↦ omega (arith, ltb→lt a 0 (h .0 .lt)) | inr h ↦ omega (arith, leb→le L a (h .0 .le)) ] ];
       }
       | inr l ↦ record {
         i = L - 1;
-        stands = record { voxel = omega arith; rule = inr (inr (leZ-yes (le→leb L a l), refl)) };
-        only = λ j s. elim (s .rule) [ inl e ↦ omega (arith, same e, s .voxel) | inr o ↦ elim o [ inl h ↦ omega (arith, ltb→lt a 0 (h .0 .lt)) | inr h ↦ h .1 ] ];
+        stands = record { voxel = omega arith; rule = to (L - 1) (inr (inr (leZ-yes (le→leb L a l), refl))) };
+        only = λ j s. elim (of j (s .rule)) [ inl e ↦ omega (arith, same e, s .voxel) | inr o ↦ elim o [ inl h ↦ omega (arith, ltb→lt a 0 (h .0 .lt)) | inr h ↦ h .1 ] ];
       }
     ]
 
@@ -184,6 +184,7 @@ constant-once fill L (negsuc c) h k = absurd (h .le)
 pub stands-once : (mode : BorderMode) (L : ℕ) (n : ℤ) → 2 ≤ L → Once mode L n
 stands-once (Constant fill) L n least = (outside-none fill L n, constant-once fill L n)
 stands-once Mirror L n least = mirror-once L n least
-stands-once Nearest L n least = nearest-once L n least
+stands-once Nearest L n least = edge-once Nearest L n least (λ i h. h) (λ i h. h)
 stands-once Reflect L n least = reflect-once L n least
 stands-once Wrap L n least = (wrap-ends L n least, wrap-once L n least)
+stands-once Replicate L n least = edge-once Replicate L n least (λ i h. h) (λ i h. h)

@@ -10,7 +10,7 @@ use lib.Dec.{T, lit≤, lit<}
 use lib.Ieee.{Float}
 use Rattle.exact.specs.Whole.{modZ}
 use Rattle.border.specs.declared.BorderMode.{BorderMode}
-use Rattle.border.specs.declared.BorderMode.the-variants.{Constant, Mirror, Nearest, Reflect, Wrap}
+use Rattle.border.specs.declared.BorderMode.the-variants.{Constant, Mirror, Nearest, Reflect, Wrap, Replicate}
 use Rattle.border.specs.Manual.{Apart, Rule}
 use Rattle.border.specs.Once.{None}
 use Rattle.border.proofs.Once.{wrap-rest, stands-once}
@@ -113,6 +113,10 @@ nearest-strip = (
     ),
   ),
 )
+
+-- the same strip: Replicate is held to it too
+pub replicate-strip : Strip Replicate (negsuc 3) (0 ∷ 0 ∷ 0 ∷ 0 ∷ 0 ∷ 1 ∷ 2 ∷ 3 ∷ 3 ∷ 3 ∷ 3 ∷ 3 ∷ [])
+replicate-strip = nearest-strip
 
 -- (k k k k | a b c d | k k k k)
 pub constant-strip : (fill : Float) → Blank (Constant fill) (negsuc 3) 4 × Strip (Constant fill) (pos 0) (0 ∷ 1 ∷ 2 ∷ 3 ∷ []) × Blank (Constant fill) (pos 4) 4

@@ -1,11 +1,11 @@
 -- "Every mode but Nearest folds the coordinate by `map_coordinates`, with L the length: operations and comparisons in the source's order."
--- Each definition is one arm of that function. Nearest's arm is the clamp of the neighbours.
+-- Each definition is one arm of that function. Nearest's arm is the clamp of the neighbours; Replicate's, which the Rust does not have, is the clamp of the coordinate.
 use mathlib.Core.Bool.{_||_, cond}
 use lib.Ieee.{Float, neg, lt, le}
 use Rattle.exact.specs.Rounded.{_⊕_, _⊖_, _⊗_, _⊘_, num}
 use Rattle.exact.specs.Floor.{floorF}
 use Rattle.border.specs.declared.BorderMode.{BorderMode}
-use Rattle.border.specs.declared.BorderMode.the-variants.{Constant, Mirror, Nearest, Reflect, Wrap}
+use Rattle.border.specs.declared.BorderMode.the-variants.{Constant, Mirror, Nearest, Reflect, Wrap, Replicate}
 
 -- what is left of a coordinate once whole periods are taken from its size: of one below 0, and of one beyond the far end
 abbrev pub under : Float → Float → Float
@@ -52,10 +52,15 @@ foldWrap idx len =
     let s = len ⊖ num 1 in
     cond (lt idx (num 0)) (idx ⊕ s ⊗ (floorF (neg idx ⊘ s) ⊕ num 1)) (cond (le len idx) (over s idx) idx)
 
+-- #104: a mode "that clamps the coordinate to 0 and L - 1 before anything else". Unlike Nearest's, this clamp takes what lies between L - 1 and L too.
+unfoldable pub foldReplicate : Float → Float → Float
+foldReplicate idx len = cond (lt idx (num 0)) (num 0) (cond (lt (len ⊖ num 1) idx) (len ⊖ num 1) idx)
+
 unfoldable pub fold : BorderMode → Float → Float → Float
-unfolding foldConstant foldMirror foldNearest foldReflect foldWrap
+unfolding foldConstant foldMirror foldNearest foldReflect foldWrap foldReplicate
 fold (Constant fill) idx len = foldConstant idx len
 fold Mirror idx len = foldMirror idx len
 fold Nearest idx len = foldNearest idx len
 fold Reflect idx len = foldReflect idx len
 fold Wrap idx len = foldWrap idx len
+fold Replicate idx len = foldReplicate idx len

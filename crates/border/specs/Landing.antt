@@ -1,4 +1,4 @@
--- "Those listed here aside, every whole coordinate in the domain is proved to fold as the manual's rule for that mode says; in Nearest this speaks of the neighbours' clamp." What a fold gives at a whole coordinate: a voxel of the manual's, or the case in which it departs, with its value.
+-- "Those listed here aside, every whole coordinate in the domain is proved to fold as the manual's rule for that mode says; in Nearest this speaks of the neighbours' clamp." #104: the new mode "is proved equal to the manual's rule at whole coordinates, with no exceptions": nothing is marked and nothing chosen there. What a fold gives at a whole coordinate: a voxel of the manual's, or the case in which it departs, with its value.
 use Prim.Native.Nat.{ℕ, _-_, _*_, _≤_}
 use mathlib.Core.Path.{_≡_}
 use mathlib.Core.Logic.{_⊎_}
@@ -7,7 +7,7 @@ use lib.Signed.{_≤ℤ_, _<ℤ_}
 use lib.Ieee.{Float}
 use Rattle.exact.specs.Whole.{Is}
 use Rattle.border.specs.declared.BorderMode.{BorderMode}
-use Rattle.border.specs.declared.BorderMode.the-variants.{Constant, Mirror, Nearest, Reflect, Wrap}
+use Rattle.border.specs.declared.BorderMode.the-variants.{Constant, Mirror, Nearest, Reflect, Wrap, Replicate}
 use Rattle.border.specs.Manual.{Apart, Stands}
 
 -- n is -2kL with k at least 2
@@ -23,6 +23,7 @@ Marked Mirror L n = ⊥
 Marked Nearest L n = ⊥
 Marked Reflect L n = FarEven L n
 Marked Wrap L n = ⊥
+Marked Replicate L n = ⊥
 
 -- departure 4: at multiples of L - 1, where the manual allows both ends, Wrap gives the last voxel below 0, the first at L or above, and leaves the ends themselves
 pub record Overlap (L : ℕ) (n : ℤ) (r : Float) : Type 0 where
@@ -36,6 +37,7 @@ Chosen Mirror L n r = Unit
 Chosen Nearest L n r = Unit
 Chosen Reflect L n r = Unit
 Chosen Wrap L n r = Apart (L - 1) n (pos 0) → Overlap L n r
+Chosen Replicate L n r = Unit
 
 -- r is a voxel that the manual lets stand at n
 pub record OnVoxel (mode : BorderMode) (L : ℕ) (n : ℤ) (r : Float) : Type 0 where

@@ -5,7 +5,7 @@ use mathlib.Core.Logic.{_⊎_}
 use lib.IntN.{ℤ, pos}
 use lib.Signed.{_≤ℤ_, _<ℤ_}
 use Rattle.border.specs.declared.BorderMode.{BorderMode}
-use Rattle.border.specs.declared.BorderMode.the-variants.{Constant, Mirror, Nearest, Reflect, Wrap}
+use Rattle.border.specs.declared.BorderMode.the-variants.{Constant, Mirror, Nearest, Reflect, Wrap, Replicate}
 use Rattle.border.specs.Manual.{Apart, Stands}
 
 -- exactly one voxel
@@ -30,3 +30,4 @@ Once Mirror L n = One Mirror L n
 Once Nearest L n = One Nearest L n
 Once Reflect L n = One Reflect L n
 Once Wrap L n = (Apart (L - 1) n (pos 0) → Ends Wrap L n) × ((Apart (L - 1) n (pos 0) → ⊥) → One Wrap L n)
+Once Replicate L n = One Replicate L n

@@ -1,15 +1,18 @@
-// The five border modes, and the fold that brings a coordinate beyond the border back: the Rust's
-// `map_coordinates`, operation by operation. Every function here takes any numbers.
+// The six border modes, and the fold that brings a coordinate beyond the border back: the Rust's
+// `map_coordinates`, operation by operation, and for Replicate, which the Rust does not have, the clamp.
+// Every function here takes any numbers.
 ghost use mathlib.Core.Path.{_≡_};
-ghost use Rattle.border.specs.Fold.{fold, foldConstant, foldMirror, foldNearest, foldReflect, foldWrap};
+ghost use Rattle.border.specs.Fold.{fold, foldConstant, foldMirror, foldNearest, foldReflect, foldWrap, foldReplicate};
 
-// How the volume goes on beyond its border. Only Constant carries a fill.
+// How the volume goes on beyond its border. Only Constant carries a fill. Nearest is the Rust's, and drops
+// a coordinate at or below -1; Replicate is what the SciPy manual calls nearest.
 pub enum BorderMode {
     Constant(f64),
     Mirror,
     Nearest,
     Reflect,
     Wrap,
+    Replicate,
 }
 
 // The coordinate `idx` of an axis of length `len`, folded by the mode.
@@ -22,6 +25,7 @@ pub fn map_coordinates(idx: f64, len: f64, mode: BorderMode) -> f64
         BorderMode::Nearest => fold_nearest(idx, len),
         BorderMode::Reflect => fold_reflect(idx, len),
         BorderMode::Wrap => fold_wrap(idx, len),
+        BorderMode::Replicate => fold_replicate(idx, len),
     }
 }
 
@@ -47,6 +51,20 @@ fn fold_nearest(idx: f64, len: f64) -> f64
     }
     if idx >= len {
         return len - 1.0;
+    }
+    idx
+}
+
+// Clamped to the first and the last voxel.
+fn fold_replicate(idx: f64, len: f64) -> f64
+    ensures { λ r. ⌜ r ≡ foldReplicate idx len ⌝ }
+{
+    if idx < 0.0 {
+        return 0.0;
+    }
+    let last = len - 1.0;
+    if idx > last {
+        return last;
     }
     idx
 }

@@ -12,7 +12,7 @@ use Rattle.lists.specs.Bookkeeping.{Filled}
 use Rattle.lists.proofs.Tabulated.{getD-tabulate, tabulate-same}
 use Rattle.lists.proofs.Stretches.{some-place}
 use Rattle.border.specs.declared.BorderMode.{BorderMode}
-use Rattle.border.specs.declared.BorderMode.the-variants.{Constant, Mirror, Nearest, Reflect, Wrap}
+use Rattle.border.specs.declared.BorderMode.the-variants.{Constant, Mirror, Nearest, Reflect, Wrap, Replicate}
 use Rattle.axis.specs.declared.coordinate.Axis.{Axis}
 use Rattle.axis.specs.Folded.{foldedAt}
 use Rattle.coverage.specs.Coverage.{dropCode, keptAt, codeBy, ownCode, ownCodes, xOf, yOf, zOf}
@@ -26,6 +26,7 @@ drop-apart Mirror = (refl, refl)
 drop-apart Nearest = (refl, refl)
 drop-apart Reflect = (refl, refl)
 drop-apart Wrap = (refl, refl)
+drop-apart Replicate = (refl, refl)
 
 joined-codes : (mode : BorderMode) (k l f g : Bool) → joined (codeBy mode k f) (codeBy mode l g) ≡ codeBy mode (k && l) (f || g)
 joined-codes mode true l false g = refl

@@ -7,7 +7,7 @@ use lib.Ieee.{Float}
 use Rattle.exact.specs.Rounded.{num}
 use Rattle.lists.specs.Tabulate.{tabulate}
 use Rattle.border.specs.declared.BorderMode.{BorderMode}
-use Rattle.border.specs.declared.BorderMode.the-variants.{Constant, Mirror, Nearest, Reflect, Wrap}
+use Rattle.border.specs.declared.BorderMode.the-variants.{Constant, Mirror, Nearest, Reflect, Wrap, Replicate}
 use Rattle.axis.specs.declared.coordinate.Axis.{Axis}
 use Rattle.axis.specs.Coordinate.{settled, kept}
 use Rattle.axis.specs.Folded.{foldedAt}
@@ -20,6 +20,7 @@ dropCode Mirror = 2
 dropCode Nearest = 2
 dropCode Reflect = 2
 dropCode Wrap = 2
+dropCode Replicate = 2
 
 abbrev pub dropValue : BorderMode → Float
 dropValue (Constant fill) = fill
@@ -27,6 +28,7 @@ dropValue Mirror = num 0
 dropValue Nearest = num 0
 dropValue Reflect = num 0
 dropValue Wrap = num 0
+dropValue Replicate = num 0
 
 -- whether an axis keeps an output index
 unfoldable pub keptAt : BorderMode → Axis → ℕ → Bool

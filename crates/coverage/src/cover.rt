@@ -24,6 +24,7 @@ pub fn drop_code(mode: BorderMode) -> u8
         BorderMode::Nearest => 2,
         BorderMode::Reflect => 2,
         BorderMode::Wrap => 2,
+        BorderMode::Replicate => 2,
     }
 }
 

@@ -1,4 +1,4 @@
--- "Nearest in `shift` and `zoom` first pads 12 edge copies on every side." The padded volume has at each place the voxel at the clamped index.
+-- "Nearest in `shift` and `zoom` first pads 12 edge copies on every side." So does Replicate (#104: "the same prefilter and pad as Nearest"). The padded volume has at each place the voxel at the clamped index.
 use Prim.Native.Nat.{ℕ, _+_, _-_, _*_, _/_, _%_, min}
 use mathlib.Core.List.{List, [], _∷_}
 use lib.ListN.{getD}

@@ -1,4 +1,4 @@
-// The pad of Nearest: twelve edge copies on every side of every axis.
+// The pad of Nearest and Replicate: twelve edge copies on every side of every axis.
 ghost use mathlib.Core.Path.{_≡_};
 ghost use Prim.Native.Nat.{_+_, _*_, _≤_, _<_};
 ghost use lib.ListN.{length};

@@ -20,6 +20,7 @@ pub mod Above
 pub mod Nans
 pub mod Halves
 pub mod Upto
+pub mod Between
 pub mod Over
 pub mod Middles
 pub mod MinusOne

@@ -10,3 +10,7 @@ zero-bits = refl
 pub one-bits : num 1 ≡ ofBits binary64 0x3ff0_0000_0000_0000
 unfolding ofBits ofInt
 one-bits = refl
+
+pub two-bits : num 2 ≡ ofBits binary64 0x4000_0000_0000_0000
+unfolding ofBits ofInt
+two-bits = refl

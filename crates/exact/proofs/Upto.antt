@@ -1,10 +1,10 @@
 -- Numbers from 0 up, bounded in units of 2^-14. A bound below 2^53 of them is an f64, so no rounding passes it, and sums, products and quotients keep such bounds.
 use Prim.Native.Nat.{ℕ, _+_, _*_, _/_, _%_, _^_, _≤_, _<_}
-use native.Mathlib.Nat.{le-trans, le-of-eq, lt-of-le-of-lt, mul-assoc, mul-right-comm, mul-one, one-mul, add-mul, mul-pos, mul-le-mul-left, mul-le-mul-right, mul-lt-mul-of-pos-right, lt-of-mul-lt-mul-right, div-lt-iff-lt-mul}
-use native.Mathlib.Decide.{ℕ-discrete}
+use native.Mathlib.Nat.{le-trans, le-of-eq, lt-of-le-of-lt, mul-assoc, mul-right-comm, mul-one, one-mul, add-mul, mul-pos, mul-le-mul-left, mul-le-mul-right, mul-lt-mul-of-pos-right, lt-of-mul-lt-mul-right, div-lt-iff-lt-mul, le-antisymm, le-of-mul-le-mul-right}
+use native.Mathlib.Decide.{ℕ-discrete, decLt}
 use native.Mathlib.Omega.{arith}
 use mathlib.Core.Path.{_≡_, refl, sym, ap, _∙_, subst}
-use mathlib.Core.Logic.{dite}
+use mathlib.Core.Logic.{_⊎_, inl, inr, dite}
 use mathlib.Core.Bool.{true, false, true≢false}
 use lib.IntN.{ℤ, pos}
 use lib.Dec.{T, lit≤, lit<}
@@ -42,7 +42,7 @@ on-upto P {u} {x} h k = go x (h .bound)
     go (fin false m e) b = k m e b
 
 -- ---- what is rounded
-rounded : (n d u : ℕ) → 0 < d → u < 2 ^ 53 → n * 2 ^ 14 ≤ u * d → Upto u (round binary64 false n d)
+pub rounded : (n d u : ℕ) → 0 < d → u < 2 ^ 53 → n * 2 ^ 14 ≤ u * d → Upto u (round binary64 false n d)
 rounded n d u D U h = go (round binary64 false n d) (round-signed binary64 false n d) (round-at-most binary64 false n d u (2 ^ 14) D (lit< tt) h (dyadic false u 14 U (lit≤ tt)))
   where
     go : (x : Float) → HasSign false x → AtMost x u (2 ^ 14) → Upto u x
@@ -89,6 +89,17 @@ upto-quotient a b u A B some U h =
     (rounded (a * 1) (b * 1) u (mul-pos some (lit< tt)) U (le-trans (le-of-eq (ap (λ (k : ℕ). k * 2 ^ 14) (mul-one a))) (le-trans h (le-of-eq (ap (λ (k : ℕ). u * k) (sym (mul-one b)))))))
 
 -- ---- what tests say of such a number
+floor-below : (m : ℕ) (e : ℤ) (L : ℕ) → m * up e < L * down e → L ≤ 2 ^ 53 → (k : ℕ) × (k < L) × Is (floorF (fin false m e)) (pos k)
+floor-below m e L below short =
+    let k = m * up e / down e in
+    let l : k < L = div-lt-iff-lt-mul (down-pos e) .1 below in (
+      k,
+      l,
+      dite (ℕ-discrete (m * up e % down e) 0)
+          (λ z. subst (λ (y : Float). Is y (pos k)) (sym (floor-whole false m e z)) (record { sign = false; size = k; value = whole-val false m e z; number = refl }))
+          (λ b. subst (λ (y : Float). Is y (pos k)) (sym (floor-broken false m e b)) (W-is (pos k) (omega arith))),
+    )
+
 module _ {u : ℕ} {x : Float} (h : Upto u x) where
   pub upto-least : lt x (num 0) ≡ false
   unfolding lt ofInt round
@@ -112,14 +123,14 @@ module _ {u : ℕ} {x : Float} (h : Upto u x) where
 
     -- its floor is one of the numbers below L
     pub upto-floor : (k : ℕ) × (k < L) × Is (floorF x) (pos k)
-    upto-floor =
-        on-upto (λ (x : Float). (k : ℕ) × (k < L) × Is (floorF x) (pos k)) h
-        (λ m e a.
-        let k = m * up e / down e in
-        let l : k < L = div-lt-iff-lt-mul (down-pos e) .1 (below (m * up e) (down e) (down-pos e) a) in (
-          k,
-          l,
-          dite (ℕ-discrete (m * up e % down e) 0)
-              (λ z. subst (λ (y : Float). Is y (pos k)) (sym (floor-whole false m e z)) (record { sign = false; size = k; value = whole-val false m e z; number = refl }))
-              (λ b. subst (λ (y : Float). Is y (pos k)) (sym (floor-broken false m e b)) (W-is (pos k) (omega arith))),
-        ))
+    upto-floor = on-upto (λ (x : Float). (k : ℕ) × (k < L) × Is (floorF x) (pos k)) h (λ m e a. floor-below m e L (below (m * up e) (down e) (down-pos e) a) short)
+
+-- a number up to n has a floor below n, or is n
+pub upto-top : {n : ℕ} {x : Float} → n ≤ 2 ^ 53 → Upto (n * 2 ^ 14) x → ((k : ℕ) × (k < n) × Is (floorF x) (pos k)) ⊎ Is x (pos n)
+upto-top {n} {x} N h = on-upto (λ (x : Float). ((k : ℕ) × (k < n) × Is (floorF x) (pos k)) ⊎ Is x (pos n)) h (λ m e a. dite (decLt (m * up e) (n * down e)) (λ l. inl (floor-below m e n l N)) (λ no. inr (top m e a (omega arith))))
+  where
+    most : (a d K : ℕ) → 0 < K → a * K ≤ n * K * d → a ≤ n * d
+    most a d K P h = le-of-mul-le-mul-right (le-trans h (le-of-eq (mul-right-comm n K d))) P
+
+    top : (m : ℕ) (e : ℤ) → m * up e * 2 ^ 14 ≤ n * 2 ^ 14 * down e → n * down e ≤ m * up e → Is (fin false m e) (pos n)
+    top m e a l = record { sign = false; size = n; value = (refl, mul-one (m * up e) ∙ le-antisymm (most (m * up e) (down e) (2 ^ 14) (lit< tt) a) l); number = refl }

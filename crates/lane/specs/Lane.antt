@@ -1,4 +1,4 @@
--- "It is scaled by the gain, then for each pole: causal start, forward pass, anticausal start, backward pass, as in the source. Nearest and Reflect use the reflect starts; the rest mirror." A lane is the list of its numbers.
+-- "It is scaled by the gain, then for each pole: causal start, forward pass, anticausal start, backward pass, as in the source. Nearest and Reflect use the reflect starts; the rest mirror." #104: a sixth mode "with the same prefilter" as Nearest. A lane is the list of its numbers.
 use Prim.Native.Nat.{ℕ, zero, suc, _-_}
 use mathlib.Core.Bool.{Bool, true, false, cond}
 use mathlib.Core.List.{List, [], _∷_, map}
@@ -6,7 +6,7 @@ use lib.Dec.{ltb, eqb}
 use lib.ListN.{length, getD, set}
 use lib.Ieee.{Float, nan}
 use Rattle.border.specs.declared.BorderMode.{BorderMode}
-use Rattle.border.specs.declared.BorderMode.the-variants.{Constant, Mirror, Nearest, Reflect, Wrap}
+use Rattle.border.specs.declared.BorderMode.the-variants.{Constant, Mirror, Nearest, Reflect, Wrap, Replicate}
 use Rattle.exact.specs.Rounded.{_⊕_, _⊖_, _⊗_, _⊘_, num}
 use Rattle.lists.specs.Tabulate.{tabulate}
 use Rattle.poles.specs.Poles.{Pole}
@@ -19,6 +19,7 @@ reflects Mirror = false
 reflects Nearest = true
 reflects Reflect = true
 reflects Wrap = false
+reflects Replicate = true
 
 -- the number at place i
 abbrev pub at : List Float → ℕ → Float

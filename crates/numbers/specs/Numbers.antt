@@ -1,4 +1,4 @@
--- "Modes: 0 Constant, 1 Mirror, 2 Nearest, 3 Reflect, 4 Wrap (5 is kept free). `fill` is read in mode 0 alone. `prefilter` is on where it is not 0. `counts` has exactly as many places as there are codes."
+-- "Modes: 0 Constant, 1 Mirror, 2 Nearest, 3 Reflect, 4 Wrap, 5 Replicate. `fill` is read in mode 0 alone. `prefilter` is on where it is not 0. `counts` has exactly as many places as there are codes."
 use Prim.Native.Nat.{ℕ}
 use mathlib.Core.Bool.{Bool, not, cond}
 use mathlib.Core.List.{List, [], _∷_}
@@ -7,23 +7,24 @@ use lib.ListN.{length}
 use lib.Ieee.{Float}
 use Rattle.exact.specs.Rounded.{num}
 use Rattle.border.specs.declared.BorderMode.{BorderMode}
-use Rattle.border.specs.declared.BorderMode.the-variants.{Constant, Mirror, Nearest, Reflect, Wrap}
+use Rattle.border.specs.declared.BorderMode.the-variants.{Constant, Mirror, Nearest, Reflect, Wrap, Replicate}
 use Rattle.request.specs.declared.Request.{Request}
 use Rattle.coverage.specs.declared.counts.Counts.{Counts}
 use Rattle.coverage.specs.Coverage.{none}
 
 -- ---- the numbers of the modes
 abbrev pub isMode : ℕ → Bool
-isMode mode = ltb mode 5
+isMode mode = ltb mode 6
 
--- of the five numbers: of another it is never asked
+-- of the six numbers: of another it is never asked
 unfoldable pub modeOf : ℕ → Float → BorderMode
 modeOf mode fill =
     cond (eqb mode 0) (Constant fill)
     (cond (eqb mode 1) Mirror
     (cond (eqb mode 2) Nearest
     (cond (eqb mode 3) Reflect
-    Wrap)))
+    (cond (eqb mode 4) Wrap
+    Replicate))))
 
 -- ---- the request
 abbrev pub requestOf : ℕ → ℕ → ℕ → Float → Float → Float → ℕ → ℕ → ℕ → Float → Request

@@ -7,7 +7,7 @@ use request::Request;
 pub fn is_mode(mode: u32) -> bool
     ensures { λ r. ⌜ r ≡ isMode mode ⌝ }
 {
-    mode < 5
+    mode < 6
 }
 
 fn mode_of(mode: u32, fill: f64) -> BorderMode
@@ -18,7 +18,8 @@ fn mode_of(mode: u32, fill: f64) -> BorderMode
         1 => BorderMode::Mirror,
         2 => BorderMode::Nearest,
         3 => BorderMode::Reflect,
-        _ => BorderMode::Wrap,
+        4 => BorderMode::Wrap,
+        _ => BorderMode::Replicate,
     }
 }
 

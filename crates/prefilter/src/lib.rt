@@ -25,6 +25,7 @@ fn reflects(mode: BorderMode) -> bool
         BorderMode::Nearest => true,
         BorderMode::Reflect => true,
         BorderMode::Wrap => false,
+        BorderMode::Replicate => true,
     }
 }
 

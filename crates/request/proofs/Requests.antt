@@ -11,7 +11,7 @@ use lib.Ieee.{nan, lt, le}
 use borrow.Author.Tests.{ltb-false}
 use Rattle.exact.specs.Rounded.{num}
 use Rattle.lists.proofs.Somes.{none-at, or-false}
-use Rattle.axis.specs.Coordinate.{isNearest}
+use Rattle.axis.specs.Coordinate.{pads}
 use Rattle.request.specs.declared.Request.{Request}
 use Rattle.request.specs.Sizes.{padding, sourceDims}
 use Rattle.request.specs.Bookkeeping.{Small, Lengths, Zoomed}
@@ -19,7 +19,7 @@ use Rattle.request.specs.Conditions.{badLength, badLengths, badZoom, bad
 
 -- ---- pads
 pub pad-most : (r : Request) {pad : ℕ} → pad ≡ padding r → pad ≤ 12
-pad-most r e = subst (λ (n : ℕ). n ≤ 12) (sym e) (go (r .prefilter && ltb 1 (r .order) && isNearest (r .mode)))
+pad-most r e = subst (λ (n : ℕ). n ≤ 12) (sym e) (go (r .prefilter && ltb 1 (r .order) && pads (r .mode)))
   where
     go : (b : Bool) → cond b 12 0 ≤ 12
     go true = lit≤ tt

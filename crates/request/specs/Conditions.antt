@@ -9,7 +9,7 @@ use Rattle.exact.specs.Rounded.{num}
 use Rattle.limits.specs.Limits.{longest, mostPlaces}
 use Rattle.lists.specs.Some.{someBelow}
 use Rattle.border.specs.declared.BorderMode.{BorderMode}
-use Rattle.border.specs.declared.BorderMode.the-variants.{Constant, Mirror, Nearest, Reflect, Wrap}
+use Rattle.border.specs.declared.BorderMode.the-variants.{Constant, Mirror, Nearest, Reflect, Wrap, Replicate}
 use Rattle.axis.specs.Point.{someBeside}
 use Rattle.request.specs.declared.Axes.{Axes}
 use Rattle.request.specs.declared.Request.{Request}
@@ -66,6 +66,7 @@ wildFill Mirror = false
 wildFill Nearest = false
 wildFill Reflect = false
 wildFill Wrap = false
+wildFill Replicate = false
 
 unfoldable pub someWild : List Float → Bool
 unfolding someBelow

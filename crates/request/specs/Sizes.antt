@@ -1,4 +1,4 @@
--- "Volumes are flat f64 buffers, last index fastest. Input, output and coverage have exactly their voxel count. Work has at least its needed count: 0 if prefilter is off or the order is below 2, else the input count, or in Nearest the count with 24 added to each axis."
+-- "Volumes are flat f64 buffers, last index fastest. Input, output and coverage have exactly their voxel count. Work has at least its needed count: 0 if prefilter is off or the order is below 2, else the input count, or in Nearest the count with 24 added to each axis." In Replicate as in Nearest (#104).
 use Prim.Native.Nat.{ℕ, _+_, _*_}
 use mathlib.Core.Bool.{Bool, _&&_, cond}
 use mathlib.Core.List.{List, [], _∷_}

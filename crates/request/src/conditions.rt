@@ -91,6 +91,7 @@ pub fn wild_fill(mode: BorderMode) -> bool
         BorderMode::Nearest => false,
         BorderMode::Reflect => false,
         BorderMode::Wrap => false,
+        BorderMode::Replicate => false,
     }
 }
 

@@ -11,7 +11,7 @@ use borrow.Author.Tests.{eqb-true, ltb-false}
 use Rattle.exact.specs.Rounded.{num}
 use Rattle.exact.specs.Within.{Within}
 use Rattle.axis.specs.Coordinate.{shiftAxis, zoomAxis}
-use Rattle.axis.proofs.Reaches.{shift-reaches, zoom-reaches}
+use Rattle.axis.proofs.Reaches.{pad-within, shift-reaches, zoom-reaches}
 use Rattle.prefilter.specs.Volume.{countOf}
 use Rattle.request.specs.declared.Axes.{Axes}
 use Rattle.request.specs.declared.Request.{Request}
@@ -44,7 +44,7 @@ shift-within (inf false) a b = absurd b
 shift-within (fin true m e) a b = record { bound = at-most (m * up e) (down e) (ltb→lt (m * up e * 1) (1 * 2 ^ 20 * down e) a) }
 shift-within (fin false m e) a b = record { bound = at-most (m * up e) (down e) (ltb→lt (m * up e * 1) (1 * 2 ^ 20 * down e) b) }
 
-good-shifts : (f : List Float) → badFactors badShift f ≡ false → (i : ℕ) → i < 3 → Within 20 (getD f i nan)
+pub good-shifts : (f : List Float) → badFactors badShift f ≡ false → (i : ℕ) → i < 3 → Within 20 (getD f i nan)
 unfolding badFactors
 good-shifts f e i l =
     let s = getD f i nan in
@@ -56,13 +56,13 @@ module _ (order n pad : ℕ) (upto : order ≤ 5) (least : 2 ≤ n) (most : n �
   shift-axis-reaches : (s : Float) → Within 20 s → Reaches order (shiftAxis n s pad)
   shift-axis-reaches s w = record {
     short = most;
-    each = λ i h. record { upto = upto; least = omega arith; most = omega arith; bound = shift-reaches n s pad i w p (omega arith) };
+    each = λ i h. record { upto = upto; least = omega arith; most = omega arith; bound = shift-reaches n s pad i w (omega arith); pad = pad-within p };
   }
 
   zoom-axis-reaches : (out : ℕ) → 2 ≤ out → out ≤ 4096 → Reaches order (zoomAxis n out pad)
   zoom-axis-reaches out two o = record {
     short = o;
-    each = λ i h. record { upto = upto; least = omega arith; most = omega arith; bound = zoom-reaches n out pad i most two o p (omega arith) };
+    each = λ i h. record { upto = upto; least = omega arith; most = omega arith; bound = zoom-reaches n out pad i most two o (omega arith); pad = pad-within p };
   }
 
 -- ---- lengths

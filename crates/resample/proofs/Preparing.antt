@@ -8,7 +8,7 @@ use lib.Dec.{ltb, lit≤}
 use lib.ListN.{getD, drop}
 use lib.Ieee.{Float}
 use borrow.Author.Tests.{eq-eqb, ne-eqb, ltb-true}
-use Rattle.axis.specs.Coordinate.{isNearest}
+use Rattle.axis.specs.Coordinate.{pads}
 use Rattle.edge.specs.Edge.{padded, paddedDims}
 use Rattle.prefilter.specs.Volume.{filterVolume, lengthOf, countOf}
 use Rattle.prefilter.specs.Bookkeeping.{Sized}
@@ -34,7 +34,7 @@ module _ (r : Request) where
   source-plain input e = simp (eq-eqb (padding r) 0 e)
 
   pub plain-padding : filters r ≡ false → padding r ≡ 0
-  plain-padding f = go (r .prefilter) (ltb 1 (r .order)) (isNearest (r .mode)) f
+  plain-padding f = go (r .prefilter) (ltb 1 (r .order)) (pads (r .mode)) f
     where
       go : (a b n : Bool) → (a && b) ≡ false → _≡_ {A = ℕ} (cond (a && b && n) 12 0) 0
       go true true n e = absurd (true≢false e)
@@ -43,7 +43,7 @@ module _ (r : Request) where
 
   -- ---- with them
   twelve : (padding r ≡ 0 → ⊥) → padding r ≡ 12
-  twelve n = go (r .prefilter && ltb 1 (r .order) && isNearest (r .mode)) n
+  twelve n = go (r .prefilter && ltb 1 (r .order) && pads (r .mode)) n
     where
       go : (b : Bool) → (_≡_ {A = ℕ} (cond b 12 0) 0 → ⊥) → _≡_ {A = ℕ} (cond b 12 0) 12
       go true n = refl

@@ -19,7 +19,7 @@ use Rattle.refusal.specs.Refusals.{numberOf, first, shiftChecks, zoomChecks, sp
 use Rattle.coverage.specs.Coverage.{ownCodes, countsOf, none}
 use Rattle.voxels.specs.Voxel.{values}
 
--- ---- what the sums read: "Nearest in `shift` and `zoom` first pads"
+-- ---- what the sums read: "Nearest in `shift` and `zoom` first pads"; so does Replicate
 unfoldable pub sourceOf : Request → List Float → List Float
 unfolding padded
 sourceOf r input = cond (eqb (padding r) 0) input (padded (r .dims) input)

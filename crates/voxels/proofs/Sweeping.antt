@@ -17,8 +17,10 @@ use Rattle.lists.specs.Bookkeeping.{Filled}
 use Rattle.lists.proofs.Tabulated.{getD-tabulate, tabulate-same}
 use Rattle.border.specs.declared.BorderMode.{BorderMode}
 use Rattle.axis.specs.declared.coordinate.Axis.{Axis}
-use Rattle.axis.specs.Point.{pointAt}
+use Rattle.axis.specs.declared.point.Point.{Point}
+use Rattle.axis.specs.Point.{isKeptMark, pointAt}
 use Rattle.axis.specs.Bookkeeping.{Reached}
+use Rattle.axis.proofs.Points.{kept-by-mark}
 use Rattle.voxels.specs.Sum.{Tap, sumY, sumZ, sumAt}
 use Rattle.voxels.specs.declared.sum.Four.{Four}
 use Rattle.voxels.specs.Bookkeeping.{column, lane, number, Planes}
@@ -84,6 +86,11 @@ pub point-planes : (order : ℕ) (mode : BorderMode) (a : Axis) (i : ℕ) (at : 
 point-planes order mode a i at size count n r e c k h =
     let inside : getD at k 0 < a .len = subst (λ (l : List ℕ). getD l k 0 < a .len) (sym e) (point-inside order mode a i k r) in
     subst (λ (m : ℕ). (getD at k 0 + 1) * size ≤ m) (sym c) (mul-le-mul-right size (omega arith))
+
+-- ---- the mark of a record says whether its index is kept
+pub marked-kept : (order : ℕ) (mode : BorderMode) (a : Axis) (i : ℕ) {t : Point} → t ≡ pointAt order mode a i → isKeptMark (t .mark) ≡ keptAt mode a i
+unfolding keptAt
+marked-kept order mode a i e = kept-by-mark order mode a i refl e
 
 -- ---- a row that was written is row j of its plane, a plane plane i of the volume
 module _ (order : ℕ) (mode : BorderMode) (xs : List Float) (plane row : ℕ) (flags : List Bool) (at : List ℕ) (weight : List Float) (ya : Axis) (width : ℕ) where

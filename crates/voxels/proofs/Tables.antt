@@ -79,7 +79,7 @@ point-inside order mode a i k r =
     let first = firstNeighbour order to in
     at-cond (kept to) (cond (eqb order 0 && outside order (a .len) first) (empty 2) (record { mark = 0; weight = buildSplines order to; at = neighbours mode order (a .len) first })) (empty 1) k (a .len)
     (λ t. at-cond (eqb order 0 && outside order (a .len) first) (empty 2) (record { mark = 0; weight = buildSplines order to; at = neighbours mode order (a .len) first }) k (a .len) (λ _. empty-inside 2 k (a .len) (r .least))
-    (neighbours-inside order mode (a .len) to k (r .upto) (r .least) (r .most) (settled-within mode a i (r .bound) (r .least) (r .most)) (above-kept to (of-true (kept to) t))))
+    (neighbours-inside order mode (a .len) to k (r .upto) (r .least) (r .most) (settled-within mode r) (above-kept to (of-true (kept to) t))))
     (empty-inside 1 k (a .len) (r .least))
 
 -- ---- one output index more

@@ -19,10 +19,10 @@ use crate::sum::sum_four;
 use crate::table::TABLE;
 use crate::table::fill_table;
 use axis::coordinate::Axis;
+use axis::point::is_kept_mark;
 use axis::point::point_at;
 use border::BorderMode;
 use coverage::cover::both;
-use coverage::cover::is_kept;
 use coverage::cover::mark_kept;
 use limits::LONGEST;
 
@@ -36,6 +36,7 @@ fn drop_value(mode: BorderMode) -> f64
         BorderMode::Nearest => 0.0,
         BorderMode::Reflect => 0.0,
         BorderMode::Wrap => 0.0,
+        BorderMode::Replicate => 0.0,
     }
 }
 
@@ -252,8 +253,8 @@ fn value_plane(
     let n = ya.out;
     let mut j = 0;
     while j < n {
-        let others = both(first, is_kept(ya, j, mode));
         let t = point_at(ya, j, order, mode);
+        let others = both(first, is_kept_mark(t.mark));
         let ny = t.at;
         let wy = t.weight;
         value_row(
@@ -305,8 +306,8 @@ fn value_planes(
     let n = xa.out;
     let mut i = 0;
     while i < n {
-        let first = is_kept(xa, i, mode);
         let t = point_at(xa, i, order, mode);
+        let first = is_kept_mark(t.mark);
         let nx = t.at;
         let wx = t.weight;
         value_plane(

@@ -8,8 +8,8 @@ use lib.Ieee.{Float, nan}
 use lib.ListN.{getD}
 use Rattle.exact.specs.Rounded.{num}
 use Rattle.border.specs.declared.BorderMode.{BorderMode}
-use Rattle.border.specs.declared.BorderMode.the-variants.{Constant, Mirror, Nearest, Reflect, Wrap}
-use Rattle.axis.specs.Coordinate.{isNearest}
+use Rattle.border.specs.declared.BorderMode.the-variants.{Constant}
+use Rattle.axis.specs.Coordinate.{pads}
 use Rattle.axis.specs.Length.{outputLength}
 use Rattle.request.specs.declared.Request.{Request}
 use Rattle.request.specs.Sizes.{needed, zoomDims}
@@ -29,18 +29,18 @@ module _ (d0 d1 d2 : ℕ) (f0 f1 f2 : Float) (order prefilter mode : ℕ) (fill 
 
   -- ---- work
   -- the number of a mode tells whether it pads
-  nearest-by-number : isNearest (modeOf mode (num 0)) ≡ isNearest (modeOf mode fill)
+  pads-by-number : pads (modeOf mode (num 0)) ≡ pads (modeOf mode fill)
   unfolding modeOf
-  nearest-by-number = go (eqb mode 0) (cond (eqb mode 1) Mirror (cond (eqb mode 2) Nearest (cond (eqb mode 3) Reflect Wrap)))
+  pads-by-number = go (eqb mode 0) _
     where
-      go : (constant : Bool) (other : BorderMode) → isNearest (cond constant (Constant (num 0)) other) ≡ isNearest (cond constant (Constant fill) other)
+      go : (constant : Bool) (other : BorderMode) → pads (cond constant (Constant (num 0)) other) ≡ pads (cond constant (Constant fill) other)
       go true other = refl
       go false other = refl
 
   -- where 255, 1 and 3 do not answer, the count is what every such call asks for
   pub work-count-needed : isMode mode ≡ true → ltb 5 order ≡ false → badLengths (asked .dims) ≡ false → workCount d0 d1 d2 order prefilter mode ≡ needed asked
   unfolding workCount
-  work-count-needed known low long = simp (known, low, long, nearest-by-number)
+  work-count-needed known low long = simp (known, low, long, pads-by-number)
 
   -- ---- zoom's output
   -- where 3 to 5 do not answer, the lengths are those of zoom's output

@@ -1,4 +1,4 @@
--- "It returns 0 for success or the refusal's number. Modes: 0 Constant, 1 Mirror, 2 Nearest, 3 Reflect, 4 Wrap (5 is kept free); any other is answered 255 before all else: no request could be formed, so it is none of document 01's refusals. `fill` is read in mode 0 alone. `prefilter` is on where it is not 0. `counts` has exactly as many places as there are codes, else 7 in its place in the order: the door then hands the entry an empty output, whose length no request has, so that the entry itself gives 1 to 6 or 7 and writes nothing. Where `counts` has the right length it is written 0 on 255 and on every refusal."
+-- "It returns 0 for success or the refusal's number. Modes: 0 Constant, 1 Mirror, 2 Nearest, 3 Reflect, 4 Wrap, 5 Replicate; any other is answered 255 before all else: no request could be formed, so it is none of document 01's refusals. `fill` is read in mode 0 alone. `prefilter` is on where it is not 0. `counts` has exactly as many places as there are codes, else 7 in its place in the order: the door then hands the entry an empty output, whose length no request has, so that the entry itself gives 1 to 6 or 7 and writes nothing. Where `counts` has the right length it is written 0 on 255 and on every refusal."
 use Prim.Native.Nat.{ℕ}
 use mathlib.Core.Bool.{not, _||_, cond}
 use mathlib.Core.List.{List, [], _∷_}

@@ -41,6 +41,12 @@ enum-told-5 c = search needs
 fold-wrap-requires : tie.Need-fold-wrap-requires
 fold-wrap-requires c κs = search needs
 
+enum-told-6 : tie.Need-enum-told-6
+enum-told-6 c = search needs
+
+fold-replicate-requires : tie.Need-fold-replicate-requires
+fold-replicate-requires c κs = search needs
+
 returns : tie.Need-returns
 unfolding fold
 returns c = by-mode _ _ (c .fold-constant .ensures) (c .before .enum-told .given .1)
@@ -61,6 +67,10 @@ returns-5 : tie.Need-returns-5
 unfolding fold
 returns-5 c = by-mode _ _ (c .fold-wrap .ensures) (c .before .enum-told5 .given .1)
 
+returns-6 : tie.Need-returns-6
+unfolding fold
+returns-6 c = by-mode _ _ (c .fold-replicate .ensures) (c .before .enum-told6 .given .1)
+
 pub map-coordinates-spec : {M : Type 1} → statement M
 map-coordinates-spec =
     tie.close
@@ -75,8 +85,11 @@ map-coordinates-spec =
     fold-reflect-requires
     enum-told-5
     fold-wrap-requires
+    enum-told-6
+    fold-replicate-requires
     returns
     returns-2
     returns-3
     returns-4
-    returns-5)
+    returns-5
+    returns-6)

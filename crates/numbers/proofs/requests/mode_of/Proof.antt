@@ -29,7 +29,11 @@ returns-4 c = numbered (c .before .args .fill) (c .match .keys4)
 
 returns-5 : tie.Need-returns-5
 unfolding modeOf
-returns-5 c = let n = c .match .rest in simp (ne-eqb _ _ (n .0 .0 .0 .1), ne-eqb _ _ (n .0 .0 .1), ne-eqb _ _ (n .0 .1), ne-eqb _ _ (n .1))
+returns-5 c = numbered (c .before .args .fill) (c .match .keys5)
+
+returns-6 : tie.Need-returns-6
+unfolding modeOf
+returns-6 c = let n = c .match .rest in simp (ne-eqb _ _ (n .0 .0 .0 .0 .1), ne-eqb _ _ (n .0 .0 .0 .1), ne-eqb _ _ (n .0 .0 .1), ne-eqb _ _ (n .0 .1), ne-eqb _ _ (n .1))
 
 pub mode-of-spec : {M : Type 1} → statement M
-mode-of-spec = tie.close (tie.spec returns returns-2 returns-3 returns-4 returns-5)
+mode-of-spec = tie.close (tie.spec returns returns-2 returns-3 returns-4 returns-5 returns-6)

@@ -24,6 +24,9 @@ enum-told-3 c = search needs
 enum-told-4 : tie.Need-enum-told-4
 enum-told-4 c = search needs
 
+enum-told-5 : tie.Need-enum-told-5
+enum-told-5 c = search needs
+
 returns : tie.Need-returns
 returns c = c .is-wild .ensures ∙ sym (ap (λ (m : BorderMode). wildFill m) (c .before .before .mode .given .1))
 
@@ -39,6 +42,9 @@ returns-4 c = search needs
 returns-5 : tie.Need-returns-5
 returns-5 c = search needs
 
+returns-6 : tie.Need-returns-6
+returns-6 c = search needs
+
 pub wild-fill-spec : {M : Type 1} → statement M
 wild-fill-spec =
     tie.close
@@ -49,8 +55,10 @@ wild-fill-spec =
     enum-told-2
     enum-told-3
     enum-told-4
+    enum-told-5
     returns
     returns-2
     returns-3
     returns-4
-    returns-5)
+    returns-5
+    returns-6)

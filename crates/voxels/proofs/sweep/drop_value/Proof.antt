@@ -22,6 +22,9 @@ enum-told-3 c = search needs
 enum-told-4 : tie.Need-enum-told-4
 enum-told-4 c = search needs
 
+enum-told-5 : tie.Need-enum-told-5
+enum-told-5 c = search needs
+
 returns : tie.Need-returns
 returns c = search needs
 
@@ -41,6 +44,10 @@ returns-5 : tie.Need-returns-5
 unfolding ofBits ofInt
 returns-5 c = sym (ap (λ (m : BorderMode). dropValue m) (c .enum-told4 .given .1))
 
+returns-6 : tie.Need-returns-6
+unfolding ofBits ofInt
+returns-6 c = sym (ap (λ (m : BorderMode). dropValue m) (c .enum-told5 .given .1))
+
 pub drop-value-spec : {M : Type 1} → statement M
 drop-value-spec =
     tie.close
@@ -50,8 +57,10 @@ drop-value-spec =
     enum-told-2
     enum-told-3
     enum-told-4
+    enum-told-5
     returns
     returns-2
     returns-3
     returns-4
-    returns-5)
+    returns-5
+    returns-6)

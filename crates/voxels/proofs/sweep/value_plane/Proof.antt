@@ -11,7 +11,7 @@ use Rattle.axis.specs.declared.point.Point.{Point}
 use Rattle.voxels.specs.Sum.{lent}
 use Rattle.voxels.specs.Voxel.{tapOf}
 use Rattle.voxels.specs.Bookkeeping.{rowValue, planeValue}
-use Rattle.voxels.proofs.Sweeping.{point-planes, row-filled}
+use Rattle.voxels.proofs.Sweeping.{marked-kept, point-planes, row-filled}
 use Rattle.voxels.proofs.sweep.value_plane.Statement.{statement}
 use Rattle.voxels.proofs.sweep.value_plane.Tie as tie
 
@@ -44,14 +44,14 @@ loop-holds c =
     let f = planeValue (a .order) (a .mode) (a .«data» .now) (a .plane) (a .row) (a .kept .now) (a .at .now) (a .weight .now) (a .ya) (a .width) (lent (a .nx .now) (a .wx .now)) (a .first) in
     (omega arith, subst (λ (long : ℕ). Written f nan (a .width) long (a .out .now) 0) (s .pre .1 .0) (none-written f nan (a .width) (a .out .now)))
 
-is-kept-requires : tie.Need-is-kept-requires Inv-loop μ-loop
-is-kept-requires c κs = tt
+point-at-requires : tie.Need-point-at-requires Inv-loop μ-loop
+point-at-requires c κs = c .before .before .before .before .before .before .before .pre .1 .1 .1 .1 .1 .1 .1 .each (c .before .loop .j) (omega arith)
+
+is-kept-mark-requires : tie.Need-is-kept-mark-requires Inv-loop μ-loop
+is-kept-mark-requires c κs = tt
 
 both-requires : tie.Need-both-requires Inv-loop μ-loop
 both-requires c κs = tt
-
-point-at-requires : tie.Need-point-at-requires Inv-loop μ-loop
-point-at-requires c κs = c .before .before .before .before .before .before .before .before .before .pre .1 .1 .1 .1 .1 .1 .1 .each (c .before .before .before .loop .j) (omega arith)
 
 mul-value-row : tie.Need-mul-value-row Inv-loop μ-loop
 mul-value-row c = omega (arith, room (c .before .before .before .before .before))
@@ -80,7 +80,7 @@ value-row-requires c κs =
     let a = s .args in
     let p = s .pre in
     let j = c .before .before .before .before .before .before .before .before .before .loop .j in
-    let point = c .before .before .before .before .before .point-at in
+    let point = c .before .before .before .before .before .before .before .point-at in
     (p .0, (omega (arith, row-long (c .before .before .before .before .before .before .before .before), p .1 .1 .0), (p .1 .1 .1 .0, (point-planes (a .order) (a .mode) (a .ya) j (point .result .at) (a .row) (a .plane) (a .order + 1) (p .1 .1 .1 .1 .1 .1 .1 .each j (below (c .before .before .before .before .before .before .before .before))) (ap (λ (t : Point). t .at) (point .ensures)) (p .1 .1 .1 .1 .0), (p .1 .1 .1 .1 .1 .0, p .1 .1 .1 .1 .1 .1 .0)))))
 
 add-j : tie.Need-add-j Inv-loop μ-loop
@@ -94,8 +94,9 @@ loop-again c =
     let a = c .before .before .before .before .before .before .before .before .before .before .before .before .before .before .before .before .before .before .args in
     let l = c .before .before .before .before .before .before .before .before .before .before .before .before .loop in
     let call = c .before .before .value-row in
-    let others = c .before .before .before .before .before .before .before .before .before .both in
-    let point = c .before .before .before .before .before .before .before .before .point-at in
+    let others = c .before .before .before .before .before .before .before .before .both in
+    let mark = c .before .before .before .before .before .before .before .before .before .is-kept-mark in
+    let point = c .before .before .before .before .before .before .before .before .before .before .point-at in
     let x = lent (a .nx .now) (a .wx .now) in
     let y = tapOf (point .result) in
     let f = planeValue (a .order) (a .mode) (a .«data» .now) (a .plane) (a .row) (a .kept .now) (a .at .now) (a .weight .now) (a .ya) (a .width) x (a .first) in
@@ -103,7 +104,7 @@ loop-again c =
     let e : call .last .0 ≡ tabulate (a .width) v = call .ensures ∙ ap (λ (n : ℕ). tabulate n v) (row-long (c .before .before .before .before .before .before .before .before .before .before .before)) in (
       omega (arith, below (c .before .before .before .before .before .before .before .before .before .before .before)),
       next-written f nan (a .width) (a .ya .out) (l .out) (call .last .0) (l .j) (below (c .before .before .before .before .before .before .before .before .before .before .before)) (l .inv .1) (call .kept .0)
-          (row-filled (a .order) (a .mode) (a .«data» .now) (a .plane) (a .row) (a .kept .now) (a .at .now) (a .weight .now) (a .ya) (a .width) x y (a .first) (others .result) (l .j) (call .last .0) (ap (λ (t : Point). tapOf t) (point .ensures)) (others .ensures ∙ ap (λ (k : Bool). a .first && k) (c .before .before .before .before .before .before .before .before .before .before .is-kept .ensures)) e),
+          (row-filled (a .order) (a .mode) (a .«data» .now) (a .plane) (a .row) (a .kept .now) (a .at .now) (a .weight .now) (a .ya) (a .width) x y (a .first) (others .result) (l .j) (call .last .0) (ap (λ (t : Point). tapOf t) (point .ensures)) (others .ensures ∙ ap (λ (k : Bool). a .first && k) (mark .ensures ∙ marked-kept (a .order) (a .mode) (a .ya) (l .j) (point .ensures))) e),
     )
 
 same-length : tie.Need-same-length Inv-loop μ-loop
@@ -122,9 +123,9 @@ value-plane-spec =
     Inv-loop
     μ-loop
     loop-holds
-    is-kept-requires
-    both-requires
     point-at-requires
+    is-kept-mark-requires
+    both-requires
     mul-value-row
     add-value-row
     mul-value-row-2

@@ -9,7 +9,7 @@ use Rattle.lists.proofs.Stretches.{next, part-length, Written, none-written, st
 use Rattle.axis.specs.declared.point.Point.{Point}
 use Rattle.voxels.specs.Voxel.{tapOf}
 use Rattle.voxels.specs.Bookkeeping.{volumeValue}
-use Rattle.voxels.proofs.Sweeping.{point-planes, plane-filled}
+use Rattle.voxels.proofs.Sweeping.{marked-kept, point-planes, plane-filled}
 use Rattle.voxels.proofs.sweep.value_planes.Statement.{statement}
 use Rattle.voxels.proofs.sweep.value_planes.Tie as tie
 
@@ -53,11 +53,11 @@ loop-holds c =
     let f = volumeValue (a .order) (a .mode) (a .«data» .now) (a .ya .len * a .row) (a .row) (a .kept .now) (a .at .now) (a .weight .now) (a .xa) (a .ya) (a .width) in
     (omega arith, subst (λ (long : ℕ). Written f nan (a .ya .out * a .width) long (a .out .now) 0) (s .pre .1 .0) (none-written f nan (a .ya .out * a .width) (a .out .now)))
 
-is-kept-requires : tie.Need-is-kept-requires Inv-loop μ-loop
-is-kept-requires c κs = tt
-
 point-at-requires : tie.Need-point-at-requires Inv-loop μ-loop
-point-at-requires c κs = c .before .before .before .before .before .before .before .before .before .before .pre .1 .1 .1 .1 .1 .1 .1 .0 .each (c .before .before .loop .i) (below (c .before))
+point-at-requires c κs = c .before .before .before .before .before .before .before .before .before .pre .1 .1 .1 .1 .1 .1 .1 .0 .each (c .before .loop .i) (below c)
+
+is-kept-mark-requires : tie.Need-is-kept-mark-requires Inv-loop μ-loop
+is-kept-mark-requires c κs = tt
 
 mul-value-plane : tie.Need-mul-value-plane Inv-loop μ-loop
 mul-value-plane c = omega (arith, room (c .before .before .before .before))
@@ -86,7 +86,7 @@ value-plane-requires c κs =
     let a = s .args in
     let p = s .pre in
     let i = c .before .before .before .before .before .before .before .before .loop .i in
-    let point = c .before .before .before .before .before .point-at in
+    let point = c .before .before .before .before .before .before .point-at in
     (p .0, (plane-long (c .before .before .before .before .before .before .before), (p .1 .1 .0, (point-planes (a .order) (a .mode) (a .xa) i (point .result .at) (a .ya .len * a .row) (length (a .«data» .now)) (a .order + 1) (p .1 .1 .1 .1 .1 .1 .1 .0 .each i (below (c .before .before .before .before .before .before .before))) (ap (λ (t : Point). t .at) (point .ensures)) (p .1 .1 .1 .0), (refl, (p .1 .1 .1 .1 .1 .0, (p .1 .1 .1 .1 .1 .1 .0, p .1 .1 .1 .1 .1 .1 .1 .1)))))))
 
 add-i : tie.Need-add-i Inv-loop μ-loop
@@ -100,11 +100,11 @@ loop-again c =
     let a = c .before .before .before .before .before .before .before .before .before .before .before .before .before .before .before .before .before .before .before .args in
     let l = c .before .before .before .before .before .before .before .before .before .before .before .loop in
     let call = c .before .before .value-plane in
-    let first = c .before .before .before .before .before .before .before .before .before .is-kept in
-    let point = c .before .before .before .before .before .before .before .before .point-at in (
+    let first = c .before .before .before .before .before .before .before .before .is-kept-mark in
+    let point = c .before .before .before .before .before .before .before .before .before .point-at in (
       omega (arith, below (c .before .before .before .before .before .before .before .before .before .before)),
       next-written (volumeValue (a .order) (a .mode) (a .«data» .now) (a .ya .len * a .row) (a .row) (a .kept .now) (a .at .now) (a .weight .now) (a .xa) (a .ya) (a .width)) nan (a .ya .out * a .width) (a .xa .out) (l .out) (call .last .0) (l .i) (below (c .before .before .before .before .before .before .before .before .before .before)) (l .inv .1) (call .kept .0)
-          (plane-filled (a .order) (a .mode) (a .«data» .now) (a .ya .len * a .row) (a .row) (a .kept .now) (a .at .now) (a .weight .now) (a .ya) (a .width) (a .xa) (tapOf (point .result)) (first .result) (l .i) (call .last .0) (ap (λ (t : Point). tapOf t) (point .ensures)) (first .ensures) (call .ensures)),
+          (plane-filled (a .order) (a .mode) (a .«data» .now) (a .ya .len * a .row) (a .row) (a .kept .now) (a .at .now) (a .weight .now) (a .ya) (a .width) (a .xa) (tapOf (point .result)) (first .result) (l .i) (call .last .0) (ap (λ (t : Point). tapOf t) (point .ensures)) (first .ensures ∙ marked-kept (a .order) (a .mode) (a .xa) (l .i) (point .ensures)) (call .ensures)),
     )
 
 same-length : tie.Need-same-length Inv-loop μ-loop
@@ -125,8 +125,8 @@ value-planes-spec =
     mul-plane
     mul-size
     loop-holds
-    is-kept-requires
     point-at-requires
+    is-kept-mark-requires
     mul-value-plane
     add-value-plane
     mul-value-plane-2
