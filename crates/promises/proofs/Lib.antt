@@ -9,7 +9,9 @@ pub mod Places
 pub mod Marked
 pub mod Counted
 pub mod Working
+pub mod Spans
 pub mod Spread
+pub mod Keeping
 pub mod Zooming
 pub mod OneVoxel
 pub mod WholePoint
@@ -19,6 +21,9 @@ pub mod Nine
 pub mod WholeRequest
 pub mod Moving
 pub mod WholeFolds
+pub mod Replicated
+pub mod ReplicatedVoxel
+pub mod ReplicatedInside
 pub mod OrderZero
 pub mod Images
 pub mod Sames

@@ -9,9 +9,8 @@ use lib.Dec.{lit≤, lit<}
 use lib.ListN.{getD}
 use lib.Ieee.{Float}
 use Rattle.exact.specs.Rounded.{num}
-use Rattle.exact.proofs.Naturals.{num-is}
 use Rattle.border.specs.declared.BorderMode.{BorderMode}
-use Rattle.border.specs.declared.BorderMode.the-variants.{Constant, Mirror, Nearest, Reflect, Wrap}
+use Rattle.border.specs.declared.BorderMode.the-variants.{Constant, Mirror, Nearest, Reflect, Wrap, Replicate}
 use Rattle.axis.specs.declared.coordinate.Axis.{Axis}
 use Rattle.axis.specs.Coordinate.{shiftAxis, zoomAxis}
 use Rattle.axis.specs.Point.{pointAt}
@@ -38,6 +37,7 @@ IsConstant Mirror = ⊥
 IsConstant Nearest = ⊥
 IsConstant Reflect = ⊥
 IsConstant Wrap = ⊥
+IsConstant Replicate = ⊥
 
 not-constant : {mode : BorderMode} → (IsConstant mode → ⊥) → (fill : Float) → mode ≡ Constant fill → ⊥
 not-constant n fill e = n (subst IsConstant (sym e) tt)
@@ -54,6 +54,7 @@ drops Mirror = record { some = lit≤ tt; upto = lit≤ tt; filled = λ e. absur
 drops Nearest = record { some = lit≤ tt; upto = lit≤ tt; filled = λ e. absurd (omega (arith, e)); defaulted = λ e. (not-constant (λ b. b), refl) }
 drops Reflect = record { some = lit≤ tt; upto = lit≤ tt; filled = λ e. absurd (omega (arith, e)); defaulted = λ e. (not-constant (λ b. b), refl) }
 drops Wrap = record { some = lit≤ tt; upto = lit≤ tt; filled = λ e. absurd (omega (arith, e)); defaulted = λ e. (not-constant (λ b. b), refl) }
+drops Replicate = record { some = lit≤ tt; upto = lit≤ tt; filled = λ e. absurd (omega (arith, e)); defaulted = λ e. (not-constant (λ b. b), refl) }
 
 -- ---- the code by what three axes say: each keeps the voxel or not, each is folded or not
 abbrev AllOf : Bool → Bool → Bool → Bool → Type 0
@@ -115,10 +116,10 @@ module _ (r : Request) {a : Axis} {length : ℕ} (b : Padded a length (padding r
 
 -- ---- the promise of `shift` and `zoom`
 padded-shift : (length pad : ℕ) (shift : Float) → length ≤ 4096 → pad ≤ 12 → Padded (shiftAxis length shift pad) length pad
-padded-shift length pad shift l p = record { long = refl; stands = num-is pad (omega arith); short = omega arith }
+padded-shift length pad shift l p = record { long = refl; stands = refl; short = omega arith }
 
 padded-zoom : (length out pad : ℕ) → length ≤ 4096 → pad ≤ 12 → Padded (zoomAxis length out pad) length pad
-padded-zoom length out pad l p = record { long = refl; stands = num-is pad (omega arith); short = omega arith }
+padded-zoom length out pad l p = record { long = refl; stands = refl; short = omega arith }
 
 -- the axes of a request that refusal 3 lets pass
 pub record Admits (e : Entry) (r : Request) : Type 0 where

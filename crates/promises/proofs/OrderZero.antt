@@ -3,18 +3,17 @@ use Prim.Native.Nat.{ℕ, _<_}
 use native.Mathlib.Omega.{arith}
 use mathlib.Core.Path.{_≡_, sym, ap, _∙_, subst}
 use mathlib.Core.Logic.{⊎-elim}
-use mathlib.Core.Bool.{Bool, true, false, _&&_, _||_, cond, true≢false}
+use mathlib.Core.Bool.{Bool, true, false, _&&_, _||_, true≢false}
 use mathlib.Core.List.{List}
-use lib.IntN.{pos}
 use lib.Ieee.{Float}
 use borrow.Author.Tests.{eq-eqb}
-use Rattle.exact.specs.Whole.{Is}
+use Rattle.exact.specs.Rounded.{num}
 use Rattle.lists.proofs.Somes.{none-at, or-false}
 use Rattle.axis.specs.declared.coordinate.Axis.{Axis}
-use Rattle.axis.specs.Coordinate.{isNearest}
 use Rattle.axis.specs.Point.{besideAt, someBeside}
 use Rattle.axis.specs.Folded.{foldedAt}
 use Rattle.axis.specs.Bookkeeping.{Reached}
+use Rattle.axis.proofs.Coordinates.{low-pad}
 use Rattle.axis.proofs.Folding.{Padded, order-0-unfolded}
 use Rattle.coverage.specs.Coverage.{keptAt, ownCode}
 use Rattle.voxels.specs.Bookkeeping.{Reaches}
@@ -28,7 +27,6 @@ use Rattle.promises.proofs.Given.{success-exactly}
 use Rattle.promises.proofs.Succeeding.{succeeds}
 use Rattle.promises.proofs.Places.{code-is}
 use Rattle.promises.proofs.Marked.{admits, three-exactly}
-use Rattle.promises.proofs.WholeRequest.{no-filter}
 
 module _ (r : Request) (input output : List Float) (coverage : List ℕ) (work : List Float) where
   -- refusal 9 did not meet the call
@@ -38,14 +36,14 @@ module _ (r : Request) (input output : List Float) (coverage : List ℕ) (work :
 
   module _ (zero : r .order ≡ 0) where
     unpadded : padding r ≡ 0
-    unpadded = ap (λ (b : Bool). cond (b && isNearest (r .mode)) 12 0) (no-filter (r .prefilter) (r .order) (omega (arith, zero)))
+    unpadded = low-pad (r .mode) (r .prefilter) (r .order) (omega (arith, zero))
 
     -- one axis of it
     axis-never : {a : Axis} {length : ℕ} → Padded a length (padding r) → Reaches (r .order) a → someBeside (r .mode) a ≡ false → (i : ℕ) → i < a .out → keptAt (r .mode) a i ≡ true → foldedAt (r .order) (r .mode) a i ≡ true → ⊥
     unfolding keptAt someBeside
     axis-never {a} b reaches beside i l k f =
         let at : Reached 0 a i = subst (λ (o : ℕ). Reached o a i) zero (reaches .each i l) in
-        let pad : Is (a .pad) (pos 0) = subst (λ (p : ℕ). Is (a .pad) (pos p)) unpadded (b .stands) in
+        let pad : a .pad ≡ num 0 = subst (λ (p : ℕ). a .pad ≡ num p) unpadded (b .stands) in
         true≢false (sym f ∙ subst (λ (o : ℕ). foldedAt o (r .mode) a i ≡ false) (sym zero) (order-0-unfolded (r .mode) a i pad at k (none-at (besideAt (r .mode) a) (a .out) beside i l)))
 
     pub order-0-never-folds : (e : Entry) → numberIn (call e r input output coverage work .answer) ≡ 0 → (i j k : ℕ) → Inside (outputDims e r) i j k → code (outputDims e r) (call e r input output coverage work .coverage) i j k ≡ 3 → ⊥

@@ -1,28 +1,30 @@
--- Whole shifts and code 3. In every mode but Nearest a kept voxel lands on a voxel of its axis, which alone has a weight at orders 0 and 1; Nearest lets a coordinate stand behind its axis, and reads the last voxel there.
+-- Whole shifts and code 3. In every mode but Nearest a kept voxel settles on a voxel of its axis, which alone has a weight at orders 0 and 1; Nearest lets a coordinate stand behind its axis, and reads the last voxel there.
 use Prim.Native.Nat.{ℕ, _^_, _≤_, _<_, zero-le}
+use native.Mathlib.Nat.{zero-add}
 use native.Mathlib.Decide.{decLt}
 use native.Mathlib.Omega.{arith}
-use mathlib.Core.Path.{_≡_, refl, sym, ap, _∙_, subst}
+use mathlib.Core.Path.{_≡_, refl, sym, _∙_, subst}
 use mathlib.Core.Logic.{_↔_, _⊎_, inl, inr, ⊎-elim, ⊎-map, dite}
-use mathlib.Core.Bool.{Bool, true, false, _&&_, cond, true≢false}
+use mathlib.Core.Bool.{Bool, true, false, true≢false}
 use mathlib.Core.List.{List}
 use lib.IntN.{ℤ, pos, negsuc, natAbs, _-ℤ_}
 use lib.Dec.{leb→le, le→leb, lit≤}
 use lib.ListN.{getD}
 use lib.Ieee.{Float, nan}
 use borrow.Author.Tests.{le-ltb}
-use Rattle.exact.specs.Rounded.{num}
 use Rattle.exact.specs.Whole.{Is}
 use Rattle.exact.proofs.Is.{neg-is, lt-is}
 use Rattle.exact.proofs.Naturals.{num-is}
 use Rattle.border.specs.declared.BorderMode.{BorderMode}
-use Rattle.border.specs.declared.BorderMode.the-variants.{Constant, Mirror, Nearest, Reflect, Wrap}
-use Rattle.border.specs.Fold.{fold}
+use Rattle.border.specs.declared.BorderMode.the-variants.{Constant, Mirror, Nearest, Reflect, Wrap, Replicate}
 use Rattle.border.specs.Landing.{Marked}
-use Rattle.border.proofs.Landing.{fold-lands}
 use Rattle.axis.specs.declared.coordinate.Axis.{Axis}
-use Rattle.axis.specs.Coordinate.{shiftAxis, coordinate, settled, isNearest, kept}
+use Rattle.axis.specs.Coordinate.{shiftAxis, coordinate, settled, kept}
+use Rattle.axis.specs.Settled.{Folds}
 use Rattle.axis.specs.Folded.{foldedAt}
+use Rattle.axis.proofs.Coordinates.{low-pad}
+use Rattle.axis.proofs.Folding.{Padded}
+use Rattle.axis.proofs.Settling.{settled-lands}
 use Rattle.coverage.specs.Coverage.{keptAt, ownCode}
 use Rattle.request.specs.declared.Request.{Request}
 use Rattle.request.specs.Sizes.{padding}
@@ -35,33 +37,24 @@ use Rattle.promises.proofs.Places.{code-is}
 use Rattle.promises.proofs.Succeeding.{succeeds}
 use Rattle.promises.proofs.Marked.{three-exactly}
 use Rattle.promises.proofs.WholePoint.{whole-unfolded, whole-folded}
-use Rattle.promises.proofs.WholeShift.{Shifts, coordinate-is, coordinate-near, length-is}
-use Rattle.promises.proofs.WholeRequest.{no-filter}
+use Rattle.promises.proofs.WholeShift.{Shifts, unpadded-is, coordinate-is, coordinate-near}
 
 -- ---- one axis
 module _ {n : ℕ} {shift : Float} {s : ℤ} (g : Shifts n shift s) (i : ℕ) (l : i < n) where
   abbrev a : Axis
   a = shiftAxis n shift 0
 
-  no-pad : Is (a .pad) (pos 0)
-  no-pad = num-is 0 (lit≤ tt)
-
   -- every mode but Nearest
-  module _ (mode : BorderMode) (folds : isNearest mode ≡ false) where
-    abbrev landed : Float
-    landed = fold mode (coordinate a i) (num (a .len))
+  plain : Padded a n 0
+  plain = record { long = refl; stands = refl; short = omega (arith, g .most) }
 
-    settles : landed ≡ settled mode a i
-    unfolding settled
-    settles = simp folds
-
-    pub kept-unfolded : keptAt mode a i ≡ true → (order : ℕ) → order ≤ 1 → foldedAt order mode a i ≡ false
-    unfolding keptAt
-    kept-unfolded k order low =
-        let lands = fold-lands mode (pos i -ℤ s) n (coordinate-is g i l) (length-is g i l) (g .least) (omega (arith, g .most)) (omega (arith, coordinate-near g i l)) in
-        let stays : Marked mode n (pos i -ℤ s) → ⊥ = λ m. true≢false (sym k ∙ ap kept (sym settles) ∙ lt-is (neg-is (num-is 1 (lit≤ tt))) (lands .marked m)) in
-        let v = lands .follows stays in
-        whole-unfolded mode a i no-pad (omega (arith, g .most)) (subst (λ (y : Float). Is y (pos (v .i))) settles (v .is)) order low (omega (arith, v .stands .voxel))
+  pub kept-unfolded : (mode : BorderMode) → Folds mode → keptAt mode a i ≡ true → (order : ℕ) → order ≤ 1 → foldedAt order mode a i ≡ false
+  unfolding keptAt
+  kept-unfolded mode folds k order low =
+      let lands = settled-lands mode false 0 folds plain (g .least) i (pos i -ℤ s) (unpadded-is g i l 0) (omega (arith, coordinate-near g i l)) in
+      let stays : Marked mode n (pos i -ℤ s) → ⊥ = λ m. true≢false (sym k ∙ lt-is (neg-is (num-is 1 (lit≤ tt))) (lands .marked m)) in
+      let v = lands .follows stays in
+      whole-unfolded mode a i refl (omega (arith, g .most)) (subst (λ (x : ℕ). Is (settled mode a i) (pos x)) (zero-add (v .0)) (v .2)) order low (omega (arith, v .1 .voxel))
 
   -- Nearest
   nearest-settles : coordinate a i ≡ settled Nearest a i
@@ -85,17 +78,18 @@ module _ {n : ℕ} {shift : Float} {s : ℤ} (g : Shifts n shift s) (i : ℕ) (l
       go : (z : ℤ) → Is (settled Nearest a i) z → natAbs z ≤ 2 ^ 21 → NotBefore z → (foldedAt 1 Nearest a i ≡ true) ↔ Behind n z
       go (negsuc c) h near b = absurd b
       go (pos x) h near b = (
-        λ e. dite (decLt x n) (λ lies. absurd (true≢false (sym e ∙ whole-unfolded Nearest a i no-pad (omega (arith, g .most)) h 1 (lit≤ tt) (omega arith)))) (λ out. le→leb n x (omega arith)),
-        λ t. whole-folded Nearest a i no-pad (omega (arith, g .most)) h (omega (arith, leb→le n x t)) (omega arith),
+        λ e. dite (decLt x n) (λ lies. absurd (true≢false (sym e ∙ whole-unfolded Nearest a i refl (omega (arith, g .most)) h 1 (lit≤ tt) (omega arith)))) (λ out. le→leb n x (omega arith)),
+        λ t. whole-folded Nearest a i refl (omega (arith, g .most)) h (omega (arith, leb→le n x t)) (omega arith),
       )
 
 -- ---- three axes
-apart : (mode : BorderMode) → (mode ≡ Nearest) ⊎ (isNearest mode ≡ false)
-apart (Constant fill) = inr refl
-apart Mirror = inr refl
+apart : (mode : BorderMode) → (mode ≡ Nearest) ⊎ Folds mode
+apart (Constant fill) = inr tt
+apart Mirror = inr tt
 apart Nearest = inl refl
-apart Reflect = inr refl
-apart Wrap = inr refl
+apart Reflect = inr tt
+apart Wrap = inr tt
+apart Replicate = inr tt
 
 module _ (r : Request) (input output : List Float) (coverage : List ℕ) (work : List Float) (s : ℕ → ℤ) (done : numberIn (shiftCall r input output coverage work .answer) ≡ 0) (one : r .order ≡ 1) (whole : Whole r s) where
   abbrev padded : ℕ → ℕ → Axis
@@ -105,7 +99,7 @@ module _ (r : Request) (input output : List Float) (coverage : List ℕ) (work :
   axis = padded (padding r)
 
   unpadded : padding r ≡ 0
-  unpadded = ap (λ (b : Bool). cond (b && isNearest (r .mode)) 12 0) (no-filter (r .prefilter) (r .order) (omega (arith, one)))
+  unpadded = low-pad (r .mode) (r .prefilter) (r .order) (omega (arith, one))
 
   shifts : (c : ℕ) → c < 3 → Shifts (getD (r .dims) c 0) (getD (r .factors) c nan) (s c)
   shifts c l =
@@ -123,7 +117,7 @@ module _ (r : Request) (input output : List Float) (coverage : List ℕ) (work :
   folds c i = foldedAt (r .order) (r .mode) (axis c) i
 
   module _ (c : ℕ) (l : c < 3) (i : ℕ) (h : i < getD (r .dims) c 0) where
-    other-never : isNearest (r .mode) ≡ false → keeps c i ≡ true → folds c i ≡ true → ⊥
+    other-never : Folds (r .mode) → keeps c i ≡ true → folds c i ≡ true → ⊥
     other-never n k f = true≢false (sym f ∙ plainly (λ o p. keptAt (r .mode) (padded p c) i ≡ true → foldedAt o (r .mode) (padded p c) i ≡ false) (λ q. kept-unfolded (shifts c l) i h (r .mode) n q 1 (lit≤ tt)) k)
 
     near-kept : r .mode ≡ Nearest → (keeps c i ≡ true) ↔ NotBefore (pos i -ℤ s c)

@@ -12,7 +12,7 @@ use lib.Ieee.{Float, nan, ofInt, sub, le, eq}
 use borrow.Author.Tests.{le-leb, lt-leb, le-ltb}
 use Rattle.exact.specs.Rounded.{_⊕_, _⊖_, num}
 use Rattle.exact.specs.Whole.{Is}
-use Rattle.exact.proofs.Is.{le-is}
+use Rattle.exact.proofs.Is.{neg-is, lt-is, le-is}
 use Rattle.exact.proofs.Naturals.{num-is, plus, minus, not-below}
 use Rattle.exact.proofs.Modulo.{floor-is}
 use Rattle.exact.proofs.Casts.{toUnsigned-is, unsigned-asks}
@@ -21,18 +21,19 @@ use Rattle.lists.proofs.Tabulated.{getD-tabulate}
 use Rattle.lists.proofs.Somes.{some-at}
 use Rattle.border.specs.declared.BorderMode.{BorderMode}
 use Rattle.border.specs.Fold.{fold}
-use Rattle.border.proofs.Arms.{inside}
+use Rattle.border.proofs.Landing as landing
 use Rattle.axis.specs.declared.coordinate.Axis.{Axis}
 use Rattle.axis.specs.declared.point.Point.{Point}
 use Rattle.axis.specs.Coordinate.{settled}
 use Rattle.axis.specs.Weights.{base, leading, completed, sumFrom, buildSplines}
 use Rattle.axis.specs.Neighbours.{firstNeighbour, outside, splineMode, neighbour, neighbourIndex}
-use Rattle.axis.specs.Point.{neighbours, keptPoint}
+use Rattle.axis.specs.Point.{neighbours, keptPoint, pointAt}
 use Rattle.axis.specs.Folded.{weighs, beyond, weightAt, unfoldedAt, foldedBy, foldedAt, AllInside}
 use Rattle.axis.proofs.Folding.{Padded, beyond-at, inside-unfolded}
 use Rattle.axis.proofs.Weights.{whole-linear}
 use Rattle.axis.proofs.Inside.{index-inside}
-use Rattle.axis.proofs.Points.{placeOf, kept-inside}
+use Rattle.axis.proofs.Points.{placeOf, kept-inside, point-kept}
+use Rattle.coverage.specs.Coverage.{keptAt}
 use Rattle.voxels.specs.Sum.{lent}
 use Rattle.voxels.specs.Voxel.{tapOf}
 use Rattle.exact.proofs.Halves.{floor-half}
@@ -103,7 +104,7 @@ module _ {to : Float} {x L : ℕ} (is : Is to (pos x)) (lies : x < L) (two : 2 �
     index-is mode out = toUnsigned-is (go out) (omega arith)
       where
         go : (out : Bool) → Is (cond out (fold (splineMode mode) (first ⊕ num 0) (num L)) (first ⊕ num 0)) (pos x)
-        go true = subst (λ (y : Float). Is y (pos x)) (inside (splineMode mode) (first ⊕ num 0) (num L) (not-below stays) before-end) stays
+        go true = landing.stays (first ⊕ num 0) (num L) L two top (num-is L (omega arith)) (splineMode mode) stays lies
         go false = stays
 
     none-outside : outside 0 L first ≡ false
@@ -112,7 +113,7 @@ module _ {to : Float} {x L : ℕ} (is : Is to (pos x)) (lies : x < L) (two : 2 �
   pub not-beside : outside 0 L (firstNeighbour 0 to) ≡ false
   not-beside = none-outside (first-names 0 (lit≤ tt))
 
-  pub names : (order : ℕ) (mode : BorderMode) → order ≤ 1 → Names order L x (keptPoint order mode L to)
+  names : (order : ℕ) (mode : BorderMode) → order ≤ 1 → Names order L x (keptPoint order mode L to)
   names order mode l =
       let first = firstNeighbour order to in
       let counts : (eqb order 0 && outside order L first) ≡ false = low-order (λ k. (eqb k 0 && outside k L (firstNeighbour k to)) ≡ false) not-beside refl order l in
@@ -131,8 +132,18 @@ zero-weightless : weighs (num 0) ≡ false
 unfolding eq ofInt
 zero-weightless = refl
 
+-- ---- an output index that settles there
+module _ (mode : BorderMode) (a : Axis) (i : ℕ) {x : ℕ} (is : Is (settled mode a i) (pos x)) where
+  pub whole-kept : keptAt mode a i ≡ true
+  unfolding keptAt
+  whole-kept = lt-is (neg-is (num-is 1 (lit≤ tt))) is
+
+  pub whole-names : x < a .len → 2 ≤ a .len → a .len ≤ 4120 → (order : ℕ) → order ≤ 1 → Names order (a .len) x (pointAt order mode a i)
+  unfolding keptAt
+  whole-names lies two top order low = subst (λ (t : Point). Names order (a .len) x t) (point-kept order mode a i refl whole-kept) (names is lies two top order mode low)
+
 -- ---- whether a neighbour was folded there: voxel x alone has a weight
-module _ (mode : BorderMode) (a : Axis) (i : ℕ) {x : ℕ} (pad : Is (a .pad) (pos 0)) (short : a .len ≤ 4120) (is : Is (settled mode a i) (pos x)) where
+module _ (mode : BorderMode) (a : Axis) (i : ℕ) {x : ℕ} (pad : a .pad ≡ num 0) (short : a .len ≤ 4120) (is : Is (settled mode a i) (pos x)) where
   unpadded : Padded a (a .len) 0
   unpadded = record { long = omega arith; stands = pad; short = short }
 

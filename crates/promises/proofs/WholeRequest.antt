@@ -16,13 +16,14 @@ use Rattle.border.specs.declared.BorderMode.{BorderMode}
 use Rattle.border.specs.declared.BorderMode.the-variants.{Constant}
 use Rattle.axis.specs.declared.coordinate.Axis.{Axis}
 use Rattle.axis.specs.declared.point.Point.{Point}
-use Rattle.axis.specs.Coordinate.{shiftAxis, isNearest}
+use Rattle.axis.specs.Coordinate.{shiftAxis}
 use Rattle.axis.specs.Point.{pointAt, besideAt, someBeside}
 use Rattle.axis.specs.Folded.{foldedAt}
+use Rattle.axis.proofs.Coordinates.{low-pad}
 use Rattle.coverage.specs.Coverage.{keptAt}
 use Rattle.prefilter.specs.Volume.{filterVolume}
 use Rattle.request.specs.declared.Request.{Request}
-use Rattle.request.specs.Sizes.{filters, padding, sourceDims}
+use Rattle.request.specs.Sizes.{padding, sourceDims}
 use Rattle.request.specs.Bookkeeping.{Lengths}
 use Rattle.request.specs.Conditions.{wild, wildFill, someWild, besideAny}
 use Rattle.refusal.specs.Refusals.{shiftChecks}
@@ -67,21 +68,21 @@ pub no-filter : (prefilter : Bool) (order : ℕ) → order ≤ 1 → (prefilter 
 no-filter true order l = le-ltb 1 order l
 no-filter false order l = refl
 
+-- the sums read the input itself
+pub plain-input : (r : Request) (input : List Float) → r .order ≤ 1 → coefficients r input ≡ input
+unfolding coefficients
+plain-input r input low = ap (λ (b : Bool). cond b (filterVolume (r .mode) (r .order) (sourceDims r) (sourceOf r input)) input) (no-filter (r .prefilter) (r .order) low)
+
 pub and-false : (t : Bool) → (t && false) ≡ false
 and-false true = refl
 and-false false = refl
 
 module _ {r : Request} {input output : List Float} {coverage : List ℕ} {work : List Float} {fill : Float} {s : ℕ → ℤ} (a : Asked r input output coverage work fill s) where
-  unfiltered : filters r ≡ false
-  unfiltered = no-filter (r .prefilter) (r .order) (a .low)
-
   no-pad : padding r ≡ 0
-  no-pad = ap (λ (b : Bool). cond (b && isNearest (r .mode)) 12 0) unfiltered
+  no-pad = low-pad (r .mode) (r .prefilter) (r .order) (a .low)
 
-  -- the sums read the input itself
   pub plain : coefficients r input ≡ input
-  unfolding coefficients
-  plain = ap (λ (b : Bool). cond b (filterVolume (r .mode) (r .order) (sourceDims r) (sourceOf r input)) input) unfiltered
+  plain = plain-input r input (a .low)
 
   pub length-is : (c : ℕ) → axis r c .len ≡ dim r c
   length-is c = omega (arith, no-pad)

@@ -11,7 +11,7 @@ use lib.Dec.{T, ltb, le→leb, lit≤}
 use lib.Ieee.{Float, binary64, neg, lt, le, ofInt}
 use lib.Ieee.Fits.{add-fits}
 use borrow.Author.Tests.{lt-leb}
-use Rattle.exact.specs.Rounded.{_⊕_, _⊗_, num}
+use Rattle.exact.specs.Rounded.{_⊕_, num}
 use Rattle.exact.specs.Whole.{Is}
 use Rattle.exact.proofs.Value.{is-true}
 use Rattle.exact.proofs.Tests.{or-l, or-r}
@@ -22,15 +22,13 @@ use Rattle.border.specs.declared.BorderMode.the-variants.{Constant}
 use Rattle.border.specs.Fold.{fold, foldConstant}
 use Rattle.border.proofs.Arms.{inside}
 use Rattle.axis.specs.declared.coordinate.Axis.{Axis}
-use Rattle.axis.specs.declared.point.Point.{Point}
-use Rattle.axis.specs.Coordinate.{shiftAxis, coordinate, settled, kept}
+use Rattle.axis.specs.Coordinate.{shiftAxis, unpadded, coordinate, settled, kept}
 use Rattle.axis.specs.Neighbours.{outside, firstNeighbour}
 use Rattle.axis.specs.Point.{pointAt, besideAt}
 use Rattle.axis.specs.Folded.{foldedAt}
-use Rattle.axis.proofs.Points.{point-kept}
 use Rattle.coverage.specs.Coverage.{keptAt}
 use Rattle.promises.specs.Moves.{Outside}
-use Rattle.promises.proofs.WholePoint.{Names, names, not-beside, whole-unfolded}
+use Rattle.promises.proofs.WholePoint.{Names, not-beside, whole-kept, whole-names, whole-unfolded}
 
 -- ---- the size of a difference
 size : (i : ℕ) (z : ℤ) → natAbs (pos i -ℤ z) ≤ i + natAbs z
@@ -56,23 +54,27 @@ pub record Shifts (n : ℕ) (shift : Float) (s : ℤ) : Type 0 where
 
 -- ---- its coordinate, in any mode
 module _ {n : ℕ} {shift : Float} {s : ℤ} (g : Shifts n shift s) (i : ℕ) (l : i < n) where
+  pub unpadded-is : (pad : ℕ) → Is (unpadded (shiftAxis n shift pad) i) (pos i -ℤ s)
+  unfolding unpadded ofInt
+  unpadded-is pad =
+      let far = size i s in
+      subst (λ (x : Float). Is x (pos i -ℤ s)) (sym (mul-one-r (num i ⊕ neg shift) (add-fits binary64 (num i) (neg shift)))) (add-is (num-is i (omega arith)) (neg-is (g .is)) (omega arith))
+
   pub coordinate-is : Is (coordinate (shiftAxis n shift 0) i) (pos i -ℤ s)
-  unfolding coordinate ofInt
+  unfolding coordinate
   coordinate-is =
       let far = size i s in
-      let moved : Is (num i ⊕ neg shift) (pos i -ℤ s) = add-is (num-is i (omega arith)) (neg-is (g .is)) (omega arith) in
-      let as-is : Is ((num i ⊕ neg shift) ⊗ num 1) (pos i -ℤ s) = subst (λ (x : Float). Is x (pos i -ℤ s)) (sym (mul-one-r (num i ⊕ neg shift) (add-fits binary64 (num i) (neg shift)))) moved in
       let e = +ℤ-idr (pos i -ℤ s) in
-      subst (λ (z : ℤ). Is (coordinate (shiftAxis n shift 0) i) z) e (add-is as-is (num-is 0 (lit≤ tt)) (subst (λ (z : ℤ). natAbs z ≤ 2 ^ 53) (sym e) (omega arith)))
+      subst (λ (z : ℤ). Is (coordinate (shiftAxis n shift 0) i) z) e (add-is (unpadded-is 0) (num-is 0 (lit≤ tt)) (subst (λ (z : ℤ). natAbs z ≤ 2 ^ 53) (sym e) (omega arith)))
 
   pub coordinate-near : natAbs (pos i -ℤ s) ≤ 2 ^ 21
   coordinate-near = omega (arith, size i s, g .small, g .most)
 
-  unpadded : shiftAxis n shift 0 .len ≡ n
-  unpadded = omega arith
+  whole-length : shiftAxis n shift 0 .len ≡ n
+  whole-length = omega arith
 
   pub length-is : Is (num (shiftAxis n shift 0 .len)) (pos n)
-  length-is = subst (λ (k : ℕ). Is (num (shiftAxis n shift 0 .len)) (pos k)) unpadded (num-is (shiftAxis n shift 0 .len) (omega arith))
+  length-is = subst (λ (k : ℕ). Is (num (shiftAxis n shift 0 .len)) (pos k)) whole-length (num-is (shiftAxis n shift 0 .len) (omega arith))
 
 -- ---- in Constant
 module _ (fill : Float) {n : ℕ} {shift : Float} {s : ℤ} (g : Shifts n shift s) (i : ℕ) (l : i < n) where
@@ -103,17 +105,13 @@ module _ (fill : Float) {n : ℕ} {shift : Float} {s : ℤ} (g : Shifts n shift 
     settles = subst (λ (y : Float). Is y (pos x)) (inside (Constant fill) (coordinate a i) (num (a .len)) (not-below reads) (le-is (length-is g i l) reads ∙ lt-leb n x lies)) reads
 
     pub stays : keptAt (Constant fill) a i ≡ true
-    unfolding keptAt
-    stays = lt-is (neg-is (num-is 1 (lit≤ tt))) settles
+    stays = whole-kept (Constant fill) a i settles
 
     pub point-unfolded : (order : ℕ) → order ≤ 1 → foldedAt order (Constant fill) a i ≡ false
-    point-unfolded order o = whole-unfolded (Constant fill) a i (num-is 0 (lit≤ tt)) (omega arith) settles order o (omega arith)
+    point-unfolded order o = whole-unfolded (Constant fill) a i refl (omega arith) settles order o (omega arith)
 
     pub point-names : (order : ℕ) → order ≤ 1 → Names order n x (pointAt order (Constant fill) a i)
-    unfolding keptAt
-    point-names order o =
-        subst (λ (L : ℕ). Names order L x (pointAt order (Constant fill) a i)) (unpadded g i l)
-        (subst (λ (t : Point). Names order (a .len) x t) (point-kept order (Constant fill) a i refl stays) (names settles (omega arith) (omega arith) (omega arith) order (Constant fill) o))
+    point-names order o = subst (λ (L : ℕ). Names order L x (pointAt order (Constant fill) a i)) (whole-length g i l) (whole-names (Constant fill) a i settles (omega arith) (omega arith) (omega arith) order o)
 
     inside-not-beside : besideAt (Constant fill) a i ≡ false
     unfolding besideAt keptAt

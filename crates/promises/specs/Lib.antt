@@ -7,6 +7,7 @@ pub mod Work
 pub mod Marks
 pub mod Moves
 pub mod Folds
+pub mod Replicates
 pub mod Stays
 pub mod Filings
 pub mod Files

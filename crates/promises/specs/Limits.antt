@@ -4,7 +4,7 @@ use mathlib.Core.Bool.{Bool, true, false, not}
 use mathlib.Core.List.{List, [], _∷_}
 use lib.Ieee.{Float, nan, inf, neg, binary64, ofBits}
 use Rattle.exact.specs.Rounded.{_⊕_, _⊘_, num, half}
-use Rattle.border.specs.declared.BorderMode.the-variants.{Constant, Mirror, Nearest, Reflect, Wrap}
+use Rattle.border.specs.declared.BorderMode.the-variants.{Constant, Mirror, Nearest, Reflect, Wrap, Replicate}
 use Rattle.axis.specs.Coordinate.{shiftAxis}
 use Rattle.axis.specs.Length.{outputLength}
 use Rattle.axis.specs.Point.{someBeside}
@@ -51,7 +51,7 @@ sides =
     ∷ refused (wrong 7 8) ∷ taken (wrong 8 8) ∷ refused (wrong 9 8) ∷ refused (tooShort 7 8) ∷ taken (tooShort 8 8) ∷ taken (tooShort 9 8)
     -- 8
     ∷ taken (wild (num (2 ^ 100))) ∷ refused (wild past100) ∷ taken (wild (neg (num (2 ^ 100)))) ∷ refused (wild (neg past100))
-    ∷ refused (wild nan) ∷ refused (wild (inf false)) ∷ refused (wild (inf true)) ∷ refused (wildFill (Constant nan)) ∷ taken (wildFill Mirror) ∷ taken (wildFill Nearest) ∷ taken (wildFill Reflect) ∷ taken (wildFill Wrap)
+    ∷ refused (wild nan) ∷ refused (wild (inf false)) ∷ refused (wild (inf true)) ∷ refused (wildFill (Constant nan)) ∷ taken (wildFill Mirror) ∷ taken (wildFill Nearest) ∷ taken (wildFill Reflect) ∷ taken (wildFill Wrap) ∷ taken (wildFill Replicate)
     -- 9
-    ∷ refused (someBeside (Constant (num 0)) (shiftAxis 4 (neg half) 0)) ∷ taken (someBeside (Constant (num 0)) (shiftAxis 4 half 0)) ∷ taken (someBeside (Constant (num 0)) (shiftAxis 4 (neg (num 1)) 0))
+    ∷ refused (someBeside (Constant (num 0)) (shiftAxis 4 (neg half) 0)) ∷ taken (someBeside (Constant (num 0)) (shiftAxis 4 half 0)) ∷ taken (someBeside (Constant (num 0)) (shiftAxis 4 (neg (num 1)) 0)) ∷ refused (someBeside Nearest (shiftAxis 4 (neg half) 0)) ∷ taken (someBeside Replicate (shiftAxis 4 (neg half) 0))
     ∷ []
