@@ -1,4 +1,5 @@
-"""Document 01's departures: the coordinates at which SciPy and the Rust may differ.
+"""Where SciPy may differ, by the coordinate: from the Rust at document 01's departures, and from Replicate where
+that clamps the coordinate (document 02, #104) and SciPy the neighbours alone.
 
 Run by itself it prints what docs/DIFFERENCES.md says of SciPy: the smallest input of each departure (a
 volume of 2 by 2 by 2, each lane of the last axis 10 20, shifted on that axis), and what stands beside them.
@@ -24,19 +25,39 @@ SMALLEST = [
 ]
 
 
+# in the order of their numbers
+MODES = ["constant", "mirror", "nearest", "reflect", "wrap", "replicate"]
+
+
+def scipys(mode):
+    """SciPy's name of the mode."""
+    return "nearest" if mode == "replicate" else mode
+
+
 def is_padded(mode, order, prefilter):
-    return mode == "nearest" and prefilter and order > 1
+    return scipys(mode) == "nearest" and prefilter and order > 1
 
 
-def departs(mode, length, at, padded):
-    """Whether document 01 lists coordinate `at`, before a pad, as a departure."""
+def departs(mode, order, prefilter, length, at):
+    """Whether SciPy may differ at coordinate `at`, before a pad."""
+    padded = is_padded(mode, order, prefilter)
     if mode in ("constant", "wrap"):
         return length - 1 < at < length
     if mode == "nearest":
         return at <= (-1 - PAD if padded else -1)
     if mode == "reflect":
         return at <= -4 * length and at % (2 * length) == 0 or -(2.0**-54) <= at < 0
+    if mode == "replicate":
+        outside = at < 0 or at > length - 1
+        return order > 1 and outside and not (padded and repeats(order, length, at))
     return False
+
+
+def repeats(order, length, at):
+    """Whether SciPy's padded coefficients give the edge again at a coordinate outside: at whole ones, as long
+    as no neighbour lies more than one voxel beyond the pad."""
+    reach = PAD + 1 - order // 2
+    return at == round(at) and -reach <= at <= length - 1 + reach
 
 
 def shifted(dims, shifts):

@@ -1,33 +1,32 @@
-"""differences.py ORACLE: puts the same shifts and zooms to SciPy and, through `ORACLE ask`, to the Rust.
+"""differences.py ORACLE: puts the same shifts and zooms to SciPy and, through `ORACLE ask`, to the Rust and in
+Replicate.
 
 It counts the coordinates at which they differ by more than 1e-9 of the largest voxel, and fails if one
-of them is no departure of document 01; of all others it gives the largest gap. Where the Rust panics
+of them is not listed in departures.py; of those not listed it gives the largest gap. Where the Rust panics
 (refusal 9) there is nothing to compare.
 """
 
 import collections
 import itertools
-import struct
-import subprocess
 import sys
 
 import numpy as np
 import scipy
 from scipy import ndimage
 
-from departures import departs, is_padded, shifted, zoomed
-from vectors import MODES, bits, volume
+import ask
+from departures import MODES, departs, scipys, shifted, zoomed
+from vectors import volume
 
-FILL = -7.25
 TOLERANCE = 1e-9
 LENGTHS = [2, 3, 4, 5, 8]
 TINY = [2.0**-54, 2.0**-53, 1e-9, 5e-324]
 FAR = [30, 30.5, 64, 127.75, 128]
 
 
-def requests():
+def requests(modes):
     """Volumes of 2 by 2 by L, moved on the last axis: an entry, a volume, a factor, order, mode, flag."""
-    for length, mode, order, prefilter in itertools.product(LENGTHS, MODES, range(6), (False, True)):
+    for length, mode, order, prefilter in itertools.product(LENGTHS, modes, range(6), (False, True)):
         source = volume((2, 2, length), length)
         shifts = [k / 4 for k in range(-80, 81)]
         for size in TINY + FAR + [4 * length, 8 * length, 16 * length]:
@@ -38,50 +37,30 @@ def requests():
             yield "zoom", source, output / length, order, mode, prefilter
 
 
-def line(entry, source, factor, order, mode, prefilter):
-    still = 0.0 if entry == "shift" else 1.0
-    words = [entry, "dims", *source.shape, "factors", hexed(still), hexed(still), hexed(factor)]
-    words += ["order", order, "prefilter", int(prefilter), "mode", mode]
-    words += [hexed(FILL)] if mode == "constant" else []
-    return " ".join(map(str, words + ["input", *map(hexed, source.ravel())]))
-
-
-def hexed(number):
-    return f"0x{bits(number):016x}"
-
-
-def rusts_answers(oracle, lines):
-    text = "print bits\n" + "\n".join(lines) + "\n"
-    ran = subprocess.run([oracle, "ask"], input=text, capture_output=True, text=True, check=True)
-    return ran.stdout.splitlines()
-
-
-def values(answer):
-    words = answer.split()
-    words = words[words.index("values") + 1 :]
-    return np.array([struct.unpack("<d", struct.pack("<Q", int(word, 16)))[0] for word in words])
-
-
-def scipys(entry, source, factor, order, mode, prefilter):
+def theirs(entry, source, factor, order, mode, prefilter):
     move = ndimage.shift if entry == "shift" else ndimage.zoom
     still = 0.0 if entry == "shift" else 1.0
-    asked = dict(order=order, mode=mode, cval=FILL, prefilter=prefilter)
+    asked = dict(order=order, mode=scipys(mode), cval=ask.FILL, prefilter=prefilter)
     return move(source, (still, still, factor), **asked)
 
 
 def gaps(request, answer):
     """The coordinates of the last axis, and how far apart the values there are."""
     entry, source, factor, *_ = request
-    ours = scipys(*request)
-    apart = np.abs(values(answer).reshape(ours.shape) - ours).max(axis=(0, 1))
-    length, output = source.shape[2], ours.shape[2]
-    moved = shifted([length], [factor]) if entry == "shift" else zoomed([length], [output])
+    output = theirs(*request)
+    apart = np.abs(ask.values(answer).reshape(output.shape) - output).max(axis=(0, 1))
+    length, outputs = source.shape[2], output.shape[2]
+    moved = shifted([length], [factor]) if entry == "shift" else zoomed([length], [outputs])
     return zip(moved[0], apart, strict=True)
 
 
 def is_listed(request, at):
     _, source, _, order, mode, prefilter = request
-    return departs(mode, source.shape[2], at, is_padded(mode, order, prefilter))
+    return departs(mode, order, prefilter, source.shape[2], at)
+
+
+def mode_of(request):
+    return request[4]
 
 
 def order_of(request):
@@ -89,9 +68,10 @@ def order_of(request):
     return f"order {order}, prefiltered" if prefilter and order > 1 else f"order {order}"
 
 
-def main():
-    asked = list(requests())
-    answers = rusts_answers(sys.argv[1], [line(*request) for request in asked])
+def search(oracle, whose, modes, kind_of):
+    """Prints what was found, by kind of request; gives how many differences are not listed."""
+    asked = list(requests(modes))
+    answers = ask.answers(oracle, [ask.line(*request) for request in asked])
     pairs = zip(asked, answers, strict=True)
     answered = [(request, answer) for request, answer in pairs if answer != "panic"]
     seen, differ, unlisted = 0, collections.Counter(), []
@@ -100,21 +80,29 @@ def main():
         largest = np.abs(request[1]).max()
         for at, gap in gaps(request, answer):
             seen += 1
-            if gap > TOLERANCE * largest:
-                differ[request[4]] += 1
-                if not is_listed(request, at):
-                    unlisted.append((line(*request), at, gap))
-            else:
+            differs, listed = gap > TOLERANCE * largest, is_listed(request, at)
+            differ[kind_of(request)] += differs
+            if differs and not listed:
+                unlisted.append((ask.line(*request), at, gap))
+            elif not listed:
                 of = order_of(request)
                 rest[of] = max(rest[of], gap / largest)
     panics = len(asked) - len(answered)
-    print(f"SciPy {scipy.__version__}: {len(asked)} requests; the Rust panics at {panics}")
-    print(f"{seen} coordinates, {differ.total()} differ: {dict(differ)}; {len(unlisted)} at no departure")
+    print(f"SciPy {scipy.__version__} and {whose}: {len(asked)} requests; the Rust panics at {panics}")
+    print(f"{seen} coordinates, {differ.total()} differ: {dict(+differ)}; {len(unlisted)} at no departure")
     print("largest gap elsewhere, over the largest voxel:")
     for of, gap in sorted(rest.items()):
         print(f"  {of}: {gap:.1e}")
     for difference in unlisted[:10]:
         print(*difference)
+    return len(unlisted)
+
+
+def main():
+    oracle = sys.argv[1]
+    *rusts, replicate = MODES
+    unlisted = search(oracle, "the Rust", rusts, mode_of)
+    unlisted += search(oracle, "Replicate", [replicate], order_of)
     sys.exit(1 if unlisted else 0)
 
 

@@ -1,8 +1,8 @@
 """vectors.py FILE: what SciPy 1.10.1 gives for shift, zoom, spline_filter and spline_filter1d, in every
 mode, order and flag, for crates/manual to compare with. crates/recorded/README.md has the layout.
 
-Left out is where SciPy and the Rust are known to differ: a coordinate of one of document 01's
-departures, and a request that meets refusal 9.
+Left out is where SciPy is known to differ: a request that meets refusal 9, or has a coordinate that
+departures.py names.
 """
 
 import itertools
@@ -13,11 +13,12 @@ import numpy as np
 import scipy
 from scipy import ndimage
 
-from departures import PAD, departs, is_padded, shifted, zoomed
+from ask import FILL, bits
+from departures import MODES, PAD, departs, is_padded, scipys, shifted, zoomed
 
 VERSION = "1.10.1"
-MODES = ["constant", "mirror", "nearest", "reflect", "wrap"]
-FILL = -7.25
+# the words that crates/manual has room for
+MOST_WORDS = 65_536
 
 SHIFTS = [
     (0.0, 0.0, 0.0),
@@ -37,6 +38,8 @@ SHIFTS_OF_ORDER_0 = [
     (-1.0, 2.0, 3.0),
     (-30.0, 7.0, 40.0),
 ]
+# outside the axes, and within SciPy's pad
+WHOLE_SHIFTS = [(11.0, -9.0, 4.0), (-2.0, 6.0, -11.0)]
 ZOOMS = [(1.5, 1.0, 1.75), (2.0, 0.7, 3.5), (1.25, 3.0, 0.5)]
 # lengths on both sides of the cut-offs 7, 10, 19, 25, 33 and 40
 FILTERED = [(2, 3, 4), (7, 2, 9), (3, 20, 2), (2, 2, 41), (32, 2, 2)]
@@ -58,10 +61,15 @@ def is_beside(mode, length, at):
     return mode == "nearest" and at >= length or mode == "reflect" and -1 < at < 0
 
 
+def shifts_of(mode, order):
+    if mode == "replicate":
+        return SHIFTS + WHOLE_SHIFTS
+    return SHIFTS if order else SHIFTS_OF_ORDER_0
+
+
 def agree(mode, order, prefilter, dims, coordinates):
-    padded = is_padded(mode, order, prefilter)
     return not any(
-        departs(mode, length, at, padded) or order == 0 and is_beside(mode, length, at)
+        departs(mode, order, prefilter, length, at) or order == 0 and is_beside(mode, length, at)
         for length, axis in zip(dims, coordinates)
         for at in axis
     )
@@ -84,7 +92,7 @@ class File:
         resamples = entry < 2
         work = 0
         if resamples and prefilter and order > 1:
-            pad = PAD if mode == "nearest" else 0
+            pad = PAD if is_padded(mode, order, prefilter) else 0
             work = int(np.prod([length + 2 * pad for length in source.shape]))
         self.calls.append(
             [entry, *source.shape, *map(bits, factors), order, axis, int(prefilter), MODES.index(mode)]
@@ -95,26 +103,25 @@ class File:
 
     def write(self, path):
         words = [len(self.pool), *self.pool, len(self.calls), *itertools.chain(*self.calls)]
+        assert len(words) <= MOST_WORDS, len(words)
         with open(path, "wb") as file:
             file.write(struct.pack(f"<{len(words)}Q", *words))
-
-
-def bits(number):
-    return struct.unpack("<Q", struct.pack("<d", number))[0]
 
 
 def record_resampled(file):
     source = volume((2, 3, 4), 1)
     dims = source.shape
     for mode, order, prefilter in itertools.product(MODES, range(6), (False, True)):
-        asked = dict(order=order, mode=mode, cval=FILL, prefilter=prefilter)
+        asked = dict(order=order, mode=scipys(mode), cval=FILL, prefilter=prefilter)
         recorded = 0
-        for shifts in SHIFTS if order else SHIFTS_OF_ORDER_0:
+        for shifts in shifts_of(mode, order):
             if agree(mode, order, prefilter, dims, shifted(dims, shifts)):
                 output = ndimage.shift(source, shifts, **asked)
                 file.call(0, source, output, mode, order, shifts, prefilter=prefilter)
                 recorded += 1
-        assert recorded >= 2, (mode, order, prefilter)
+        # without prefilter Replicate agrees above order 1 where nothing is moved
+        few = mode == "replicate" and order > 1 and not prefilter
+        assert recorded >= (1 if few else 2), (mode, order, prefilter)
         for factors in ZOOMS:
             output = ndimage.zoom(source, factors, **asked)
             assert agree(mode, order, prefilter, dims, zoomed(dims, output.shape))
@@ -124,10 +131,10 @@ def record_resampled(file):
 def record_filtered(file):
     for mode, order, (seed, dims) in itertools.product(MODES, range(2, 6), enumerate(FILTERED)):
         source = volume(dims, seed)
-        output = ndimage.spline_filter(source, order, mode=mode)
+        output = ndimage.spline_filter(source, order, mode=scipys(mode))
         file.call(2, source, output, mode, order)
         for axis in range(3):
-            output = ndimage.spline_filter1d(source, order, axis, mode=mode)
+            output = ndimage.spline_filter1d(source, order, axis, mode=scipys(mode))
             file.call(3, source, output, mode, order, axis=axis)
 
 

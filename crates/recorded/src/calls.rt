@@ -8,6 +8,7 @@ use crate::lengths::at_most;
 use crate::lengths::coverage_length;
 use crate::lengths::input_length;
 use crate::lengths::output_length;
+use crate::lengths::small_at;
 use crate::lengths::work_length;
 use answer_file::print::say;
 use answer_file::print::say_whole;
@@ -88,11 +89,6 @@ pub fn say_calls(words: &[u64], entry: usize, name: &[u8]) {
     say(b": ");
     say_whole(calls_for(words, entry));
     say(b" calls, ");
-}
-
-// A word as a small number; 255 stands for any above it.
-fn small_at(words: &[u64], at: usize, k: usize) -> u32 {
-    at_most(whole_at(words, at, k), 255) as u32
 }
 
 fn request_at(words: &[u64], at: usize) -> Request {

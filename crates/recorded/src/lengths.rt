@@ -4,6 +4,7 @@ ghost use Prim.Native.Nat.{_≤_};
 ghost use Rattle.recorded.specs.Bookkeeping.{inputRoom, outputRoom, workRoom};
 use answer_file::words::whole_at;
 use answer_file::words::word_at;
+use numbers::requests::is_mode;
 
 // The words of a call.
 pub const CALL: usize = 26;
@@ -19,6 +20,11 @@ pub fn at_most(n: usize, most: usize) -> usize
     ensures { λ r. ⌜ r ≤ most ⌝ }
 {
     if n < most { n } else { most }
+}
+
+// A word as a small number; 255 stands for any above it.
+pub fn small_at(words: &[u64], at: usize, k: usize) -> u32 {
+    at_most(whole_at(words, at, k), 255) as u32
 }
 
 // A number that only shift and zoom use: 0 for a filter.
@@ -110,7 +116,7 @@ fn is_pooled(words: &[u64], at: usize) -> bool {
 
 // Words 0 and 10: an entry and a mode.
 fn is_known(words: &[u64], at: usize) -> bool {
-    whole_at(words, at, 0) < 4 && whole_at(words, at, 10) < 5
+    whole_at(words, at, 0) < 4 && is_mode(small_at(words, at, 10))
 }
 
 pub fn is_call(words: &[u64], at: usize) -> bool {

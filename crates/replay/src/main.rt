@@ -108,7 +108,7 @@ fn replay_all(words: &[u64]) {
 }
 
 fn main() {
-    let mut words = [0u64; 163840];
+    let mut words = [0u64; 196608];
     let n = load(&mut words);
     replay_all(&words[..n]);
 }

@@ -1,4 +1,4 @@
-// The border modes by the numbers of the file.
+// The Rust's border modes, by the numbers of the file.
 use border::BorderMode;
 
 pub fn mode_of(number: usize) -> BorderMode {

@@ -103,6 +103,17 @@ fn folded_lines(before: u64, volume: &[f64]) -> u64 {
     middle_line(n, b"axis of 7, shift 0, order 5", still(5))
 }
 
+// #104: the edge is repeated, before the scan and behind it.
+fn replicated_lines(before: u64, volume: &[f64]) -> u64 {
+    let mode = BorderMode::Replicate;
+    let mut n = before;
+    n = along_line(n, b"Replicate, -2", -2.0, 1, mode, volume);
+    n = along_line(n, b"Replicate, 2", 2.0, 1, mode, volume);
+    n = along_line(n, b"Replicate, 0.5", 0.5, 1, mode, volume);
+    n = along_line(n, b"Replicate, -1,048,575.5", -1048575.5, 1, mode, volume);
+    along_line(n, b"Replicate, -0.5, order 0", -0.5, 0, mode, volume)
+}
+
 // Not in the document, so that all four entries run: README.md says where these bits come from.
 fn filter_lines(before: u64, volume: &[f64]) -> u64 {
     let cubic = along(0.0, 3, BorderMode::Mirror);
@@ -116,7 +127,8 @@ fn main() {
     let constant = constant_lines(0, &volume);
     let resampled = other_lines(constant, &volume);
     let folded = folded_lines(resampled, &volume);
-    let all = filter_lines(folded, &volume);
+    let replicated = replicated_lines(folded, &volume);
+    let all = filter_lines(replicated, &volume);
     say_whole(all);
     say(b" requests\n");
 }

@@ -3,6 +3,7 @@
 use std::str::FromStr;
 
 use ndarray_ndimage::BorderMode;
+use requests::request::{Mode, CONSTANT, MIRROR, NEAREST, REFLECT, REPLICATE, WRAP};
 
 const NAMES: [&str; 18] = [
     "at",
@@ -103,14 +104,29 @@ impl<'a> Fields<'a> {
         }
     }
 
-    pub fn mode(&mut self) -> Result<BorderMode<f64>, String> {
+    /// The mode's number in the door for C, and its fill; 0.0 where it has none.
+    pub fn mode_and_fill(&mut self) -> Result<(u32, f64), String> {
         match self.values("mode")?[..] {
-            ["constant", fill] => Ok(BorderMode::Constant(float(fill)?)),
-            ["mirror"] => Ok(BorderMode::Mirror),
-            ["nearest"] => Ok(BorderMode::Nearest),
-            ["reflect"] => Ok(BorderMode::Reflect),
-            ["wrap"] => Ok(BorderMode::Wrap),
-            _ => Err("a mode is constant FILL, mirror, nearest, reflect or wrap".into()),
+            ["constant", fill] => Ok((CONSTANT, float(fill)?)),
+            ["mirror"] => Ok((MIRROR, 0.0)),
+            ["nearest"] => Ok((NEAREST, 0.0)),
+            ["reflect"] => Ok((REFLECT, 0.0)),
+            ["wrap"] => Ok((WRAP, 0.0)),
+            ["replicate"] => Ok((REPLICATE, 0.0)),
+            _ => Err("a mode is constant FILL, mirror, nearest, reflect, wrap or replicate".into()),
+        }
+    }
+
+    pub fn mode(&mut self) -> Result<Mode, String> {
+        let (number, fill) = self.mode_and_fill()?;
+        Ok(Mode::of(number, fill).expect("the number of a mode"))
+    }
+
+    /// The mode, for a kind that has no answer but the Rust's.
+    pub fn rusts_mode(&mut self) -> Result<BorderMode<f64>, String> {
+        match self.mode()? {
+            Mode::Replicate => Err("the Rust has no mode replicate: not for this kind".into()),
+            mode => Ok(mode.rusts()),
         }
     }
 }

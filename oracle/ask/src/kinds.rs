@@ -1,8 +1,10 @@
 //! The kinds of requests: what each reads from its line, and what it asks of the Rust.
 
-use ndarray::{Array3, ArrayRef3, Axis};
+use ndarray::{Array3, Axis};
 use ndarray_ndimage::probe::{self, Axes, Point};
-use ndarray_ndimage::{pad, shift, spline_filter, spline_filter1d, zoom, BorderMode, PadMode};
+use ndarray_ndimage::{pad, spline_filter, spline_filter1d, BorderMode, PadMode};
+use requests::request::{Asked, Entry};
+use requests::theirs::{self, Theirs};
 use shared::rust;
 
 use crate::answer::{Answer, Style};
@@ -12,9 +14,6 @@ use crate::voxels;
 
 /// A request that has been read: asks the Rust and writes what it says.
 type Question = Box<dyn FnOnce(&mut Answer)>;
-
-type Entry = fn(&ArrayRef3<f64>, [f64; 3], usize, BorderMode<f64>, bool) -> Array3<f64>;
-type AxesOf = fn([usize; 3], [f64; 3], usize, BorderMode<f64>, bool) -> Axes;
 
 /// The answer to one request line; an error where the line itself is at fault.
 pub fn answer(line: &str, style: Style) -> Result<String, String> {
@@ -33,8 +32,8 @@ pub fn answer(line: &str, style: Style) -> Result<String, String> {
 
 fn read(kind: &str, fields: &mut Fields) -> Result<Question, String> {
     match kind {
-        "shift" => resample(fields, shift, Axes::of_shift),
-        "zoom" => resample(fields, zoom, Axes::of_zoom),
+        "shift" => resample(fields, Entry::Shift),
+        "zoom" => resample(fields, Entry::Zoom),
         "zoom_length" => zoom_length(fields),
         "spline_filter" => filter_all_axes(fields),
         "spline_filter1d" => filter_one_axis(fields),
@@ -54,40 +53,44 @@ fn read(kind: &str, fields: &mut Fields) -> Result<Question, String> {
     }
 }
 
-struct Volume {
-    dims: [usize; 3],
-    data: Array3<f64>,
+/// Three axes, and every number of the volume.
+fn read_flat(fields: &mut Fields) -> Result<([usize; 3], Vec<f64>), String> {
+    let dims = fields.three_wholes("dims")?;
+    let values = voxels::read(fields, dims.iter().product())?;
+    Ok((dims, values))
 }
 
-impl Volume {
-    fn read(fields: &mut Fields) -> Result<Volume, String> {
-        let dims = fields.three_wholes("dims")?;
-        let values = voxels::read(fields, dims.iter().product())?;
-        let data = Array3::from_shape_vec(dims, values).expect("one value for each voxel");
-        Ok(Volume { dims, data })
-    }
+fn read_volume(fields: &mut Fields) -> Result<Array3<f64>, String> {
+    let (dims, values) = read_flat(fields)?;
+    Ok(Array3::from_shape_vec(dims, values).expect("one value for each voxel"))
 }
 
 /// `shift` or `zoom`, with the codes that its axes' tables give.
-fn resample(fields: &mut Fields, entry: Entry, axes_of: AxesOf) -> Result<Question, String> {
-    let Volume { dims, data } = Volume::read(fields)?;
-    let factors = fields.three_floats("factors")?;
-    let order = fields.whole("order")?;
-    let mode = fields.mode()?;
-    let prefilter = fields.flag("prefilter")?;
+fn resample(fields: &mut Fields, entry: Entry) -> Result<Question, String> {
+    let (dims, input) = read_flat(fields)?;
+    let (mode, fill) = fields.mode_and_fill()?;
+    let asked = Asked {
+        entry,
+        dims,
+        factors: fields.three_floats("factors")?,
+        order: fields.whole("order")?,
+        axis: 0,
+        prefilter: fields.flag("prefilter")?.into(),
+        mode,
+        fill,
+    };
     Ok(Box::new(move |answer| {
-        let out = entry(&data, factors, order, mode, prefilter);
-        let axes = axes_of(dims, factors, order, mode, prefilter);
-        write_resampled(answer, &out, &axes.codes(order, mode));
+        let theirs = theirs::call(&asked, &input);
+        write_resampled(answer, &theirs.expect("no panic in the Rust"));
     }))
 }
 
-fn write_resampled(answer: &mut Answer, out: &Array3<f64>, codes: &[u8]) {
-    let count_of = |code| codes.iter().filter(|c| **c == code).count();
-    answer.word("dims").wholes(out.shape());
+fn write_resampled(answer: &mut Answer, theirs: &Theirs) {
+    let count_of = |code| theirs.codes.iter().filter(|c| **c == code).count();
+    answer.word("dims").wholes(&theirs.dims);
     answer.word("counts").wholes(&[0, 1, 2, 3].map(count_of));
-    write_codes(answer, codes);
-    write_values(answer, out);
+    write_codes(answer, &theirs.codes);
+    answer.word("values").floats(&theirs.values);
 }
 
 fn write_codes(answer: &mut Answer, codes: &[u8]) {
@@ -115,28 +118,28 @@ fn zoom_length(fields: &mut Fields) -> Result<Question, String> {
 }
 
 fn filter_all_axes(fields: &mut Fields) -> Result<Question, String> {
-    let Volume { data, .. } = Volume::read(fields)?;
+    let data = read_volume(fields)?;
     let order = fields.whole("order")?;
-    let mode = fields.mode()?;
+    let mode = fields.mode()?.rusts();
     Ok(Box::new(move |answer| {
         write_values(answer, &spline_filter(&data, order, mode));
     }))
 }
 
 fn filter_one_axis(fields: &mut Fields) -> Result<Question, String> {
-    let Volume { data, .. } = Volume::read(fields)?;
+    let data = read_volume(fields)?;
     let axis = Axis(fields.whole("axis")?);
     let order = fields.whole("order")?;
-    let mode = fields.mode()?;
+    let mode = fields.mode()?.rusts();
     Ok(Box::new(move |answer| {
         write_values(answer, &spline_filter1d(&data, order, mode, axis));
     }))
 }
 
 fn coefficients(fields: &mut Fields) -> Result<Question, String> {
-    let Volume { data, .. } = Volume::read(fields)?;
+    let data = read_volume(fields)?;
     let order = fields.whole("order")?;
-    let mode = fields.mode()?;
+    let mode = fields.mode()?.rusts();
     let prefilter = fields.flag("prefilter")?;
     Ok(Box::new(move |answer| {
         let coefficients = probe::coefficients(&data, order, mode, prefilter);
@@ -145,7 +148,7 @@ fn coefficients(fields: &mut Fields) -> Result<Question, String> {
 }
 
 fn edge_pad(fields: &mut Fields) -> Result<Question, String> {
-    let Volume { data, .. } = Volume::read(fields)?;
+    let data = read_volume(fields)?;
     let width = fields.whole("width")?;
     Ok(Box::new(move |answer| {
         write_volume(answer, &pad(&data, &[[width, width]], PadMode::Edge));
@@ -160,7 +163,7 @@ fn read_lane(fields: &mut Fields) -> Result<Vec<f64>, String> {
 fn lane(fields: &mut Fields) -> Result<Question, String> {
     let lane = read_lane(fields)?;
     let order = fields.whole("order")?;
-    let mode = fields.mode()?;
+    let mode = fields.rusts_mode()?;
     Ok(Box::new(move |answer| {
         let filtered = probe::lane(&lane, order, mode);
         answer.word("values").floats(&filtered);
@@ -173,7 +176,7 @@ fn start(
 ) -> Result<Question, String> {
     let lane = read_lane(fields)?;
     let pole = fields.float("pole")?;
-    let mode = fields.mode()?;
+    let mode = fields.rusts_mode()?;
     Ok(Box::new(move |answer| {
         let start = start_of(&lane, pole, mode);
         answer.word("value").floats(&[start]);
@@ -182,7 +185,7 @@ fn start(
 
 fn map_coordinates(fields: &mut Fields) -> Result<Question, String> {
     let length: usize = fields.whole("length")?;
-    let mode = fields.mode()?;
+    let mode = fields.rusts_mode()?;
     let at = fields.floats("at")?;
     Ok(Box::new(move |answer| {
         let fold = |at: &f64| probe::map_coordinates(*at, length as f64, mode);
@@ -212,7 +215,7 @@ fn read_axis(fields: &mut Fields) -> Result<(Axes, usize, BorderMode<f64>), Stri
         shifts: [fields.float("shift")?; 3],
         nb_prepad: fields.whole("prepad")?,
     };
-    Ok((axes, fields.whole("order")?, fields.mode()?))
+    Ok((axes, fields.whole("order")?, fields.rusts_mode()?))
 }
 
 /// The table of one axis.

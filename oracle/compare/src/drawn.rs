@@ -2,7 +2,7 @@
 
 use requests::document::{FARTHEST, LARGEST};
 use requests::plan::{Off, Plan, VOXELS};
-use requests::request::{Asked, Entry};
+use requests::request::{Asked, Entry, MODES};
 use requests::spoils::SPOILS;
 use shared::Seeded;
 
@@ -46,7 +46,7 @@ fn admitted(seeded: &mut Seeded) -> Plan {
         order,
         axis: seeded.below(3),
         prefilter: seeded.pick(&[0, 1, 1, 7]),
-        mode: seeded.below(5) as u32,
+        mode: seeded.pick(&MODES),
         fill: seeded.pick(&[0.0, -0.0, -1.0, 7.25, 1e-310, LARGEST]),
     };
     Plan {
@@ -95,7 +95,7 @@ fn shifts(seeded: &mut Seeded, dims: [usize; 3], order: usize) -> [f64; 3] {
 }
 
 fn far_shift(seeded: &mut Seeded, length: f64) -> f64 {
-    match seeded.below(8) {
+    match seeded.below(9) {
         0 => seeded.between(-2.0 * length, 2.0 * length).round(),
         1 => seeded.between(-2.0 * length, 2.0 * length).round() + 0.5,
         2 => seeded.between(-2.0 * length, 2.0 * length),
@@ -110,6 +110,7 @@ fn far_shift(seeded: &mut Seeded, length: f64) -> f64 {
             1e-9,
         ]),
         5 => seeded.between(-FARTHEST, FARTHEST),
+        6 => seeded.pick(&[1_048_575.5, -1_048_575.5]),
         _ => {
             let period = seeded.pick(&[
                 length,
@@ -129,10 +130,12 @@ fn far_shift(seeded: &mut Seeded, length: f64) -> f64 {
     }
 }
 
-/// A factor by its output length, which may lie halfway between two.
+/// A factor by its output length, which may lie halfway between two. From 8 voxels to 26 the last
+/// coordinate is rounded above the last voxel.
 fn zoom(seeded: &mut Seeded, length: usize) -> f64 {
     let outputs = match seeded.below(60) {
         0 => seeded.between(2.0, 200.0),
+        1..6 if length == 8 => 26.0,
         1..30 => (2 + seeded.below(12)) as f64,
         30..45 => (1 + seeded.below(12)) as f64 + 0.5,
         _ => seeded.between(1.6, 12.0),

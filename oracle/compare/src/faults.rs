@@ -4,7 +4,7 @@ use requests::expected;
 use requests::lent::GUARD;
 use requests::outcome::Outcome;
 use requests::plan::Plan;
-use requests::request::{Asked, Entry, CONSTANT, NEAREST};
+use requests::request::{Asked, Entry, CONSTANT, NEAREST, REPLICATE};
 use requests::spoils::sound;
 
 use crate::ours;
@@ -57,6 +57,25 @@ const IN_CODES_OF_NEAREST: [Fault; 2] = [
     ("a folded one called defaulted", |o| recode(o, 3, 2)),
 ];
 
+/// Where every voxel bears 0, and Nearest drops the first and folds a neighbour of the last.
+const IN_REPLICATE: [Fault; 3] = [
+    ("an edge not repeated", |o| {
+        recode(o, 0, 2);
+        o.lent.output.lent_mut()[0] = 0;
+    }),
+    ("a repeated edge called defaulted", |o| recode(o, 0, 2)),
+    ("a repeated edge called folded", |o| recode(o, 0, 3)),
+];
+
+/// The same at order 0, where every other mode has refusal 9.
+const IN_REPLICATE_AT_ORDER_0: [Fault; 2] = [
+    ("refusal 9 in Replicate", |o| o.status = 9),
+    ("a voxel beside the repeated edge", |o| {
+        let output = o.lent.output.lent_mut();
+        output[3] = output[1];
+    }),
+];
+
 const IN_REFUSAL: [Fault; 8] = [
     ("another refusal", |o| o.status = 8),
     ("success", |o| o.status = 0),
@@ -98,7 +117,8 @@ fn leave_fourth_count(outcome: &mut Outcome) {
     counts[GUARD + 3] = counts[GUARD + 4] + 1;
 }
 
-/// Voxels that are dropped, that are kept, and that are kept with a folded neighbour.
+/// Voxels that are dropped, that are kept, and that are kept with a folded neighbour; in Replicate, some
+/// that are clamped below and some above.
 fn of_three_codes(mode: u32) -> Plan {
     let asked = Asked {
         factors: [0.0, 1.0, -0.5],
@@ -117,10 +137,14 @@ pub fn all_noticed() -> Result<usize, String> {
     refusal.off.output = 1;
     let mut three_counts = success;
     three_counts.off.counts = -1;
-    let planted: [(Plan, u32, &[Fault]); 5] = [
+    let mut order_0 = of_three_codes(REPLICATE);
+    order_0.asked.order = 0;
+    let planted: [(Plan, u32, &[Fault]); 7] = [
         (success, 0, &IN_SUCCESS),
         (of_three_codes(CONSTANT), 0, &IN_CODES_OF_CONSTANT),
         (of_three_codes(NEAREST), 0, &IN_CODES_OF_NEAREST),
+        (of_three_codes(REPLICATE), 0, &IN_REPLICATE),
+        (order_0, 0, &IN_REPLICATE_AT_ORDER_0),
         (refusal, 7, &IN_REFUSAL),
         (three_counts, 7, &IN_THREE_COUNTS),
     ];

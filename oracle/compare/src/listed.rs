@@ -1,9 +1,9 @@
 //! Requests that are always put: every entry, mode and order; the prefilter's cut-offs; the edges of
-//! the folds; weights about 0; zooms that round from a tie; the longest axes; each limit alone and in
-//! pairs.
+//! the folds; coordinates that Replicate clamps; weights about 0; zooms that round from a tie; the longest
+//! axes; each limit alone and in pairs.
 
 use requests::plan::{Plan, Voxels, VOXELS};
-use requests::request::{Asked, Entry, CONSTANT, ENTRIES, MIRROR, MODES, NEAREST};
+use requests::request::{Asked, Entry, CONSTANT, ENTRIES, MIRROR, MODES, NEAREST, REPLICATE};
 use requests::spoils::{sound, SPOILS};
 
 pub fn plans() -> Vec<Plan> {
@@ -12,6 +12,7 @@ pub fn plans() -> Vec<Plan> {
     plans.extend(cut_offs());
     plans.extend(fold_edges());
     plans.extend(padded_edges());
+    plans.extend(clamped());
     plans.extend(weights_about_0());
     plans.extend(ties());
     plans.extend(longest());
@@ -125,23 +126,58 @@ fn fold_edges() -> Vec<Plan> {
     plans
 }
 
-/// The same in Nearest with its pad, which drops a coordinate at or below -13.
+/// The same in the two modes with a pad. Nearest drops a coordinate at or below -13, Replicate none.
 fn padded_edges() -> Vec<Plan> {
     let mut plans = Vec::new();
-    for order in 2..=5 {
-        for edge in [11.0, 12.0, 13.0, 14.0f64] {
-            for shift in [edge.next_down(), edge, edge.next_up(), -edge] {
-                plans.push(Plan::of(
-                    Asked {
-                        dims: [2, 3, 2],
-                        factors: [0.0, shift, 0.0],
-                        prefilter: 1,
-                        mode: NEAREST,
-                        ..plain(Entry::Shift, order)
-                    },
-                    order as u64,
-                ));
+    for mode in [NEAREST, REPLICATE] {
+        for order in 2..=5 {
+            for edge in [11.0, 12.0, 13.0, 14.0f64] {
+                for shift in [edge.next_down(), edge, edge.next_up(), -edge] {
+                    plans.push(Plan::of(
+                        Asked {
+                            dims: [2, 3, 2],
+                            factors: [0.0, shift, 0.0],
+                            prefilter: 1,
+                            mode,
+                            ..plain(Entry::Shift, order)
+                        },
+                        order as u64,
+                    ));
+                }
             }
+        }
+    }
+    plans
+}
+
+/// Sizes of shifts about the coordinates that Replicate clamps.
+const ABOUT_CLAMPS: [f64; 8] = [0.0, 5e-324, 1e-9, 0.5, 0.75, 1.0, 2.5, 1_048_575.5];
+
+/// In Replicate: every axis moved, below and above in turn, so that voxels are clamped on no, one, two and
+/// three axes; and zooms whose last coordinate is rounded above the last voxel, or is not.
+fn clamped() -> Vec<Plan> {
+    let mut plans = Vec::new();
+    for (order, prefilter) in (0..=5).flat_map(|order| [(order, 0), (order, 1)]) {
+        let of = |entry, dims, factors| {
+            let asked = Asked {
+                dims,
+                factors,
+                prefilter,
+                mode: REPLICATE,
+                ..plain(entry, order)
+            };
+            Plan::of(asked, order as u64)
+        };
+        for (turn, first) in ABOUT_CLAMPS.into_iter().enumerate() {
+            for second in ABOUT_CLAMPS {
+                let third = ABOUT_CLAMPS[(turn + 3) % ABOUT_CLAMPS.len()];
+                for factors in [[first, -second, third], [-first, second, -third]] {
+                    plans.push(of(Entry::Shift, [2, 3, 4], factors));
+                }
+            }
+        }
+        for factors in [[1.0, 3.25, 1.5], [3.25, 1.0, 1.75]] {
+            plans.push(of(Entry::Zoom, [8, 8, 2], factors));
         }
     }
     plans
@@ -153,7 +189,7 @@ fn padded_edges() -> Vec<Plan> {
 fn weights_about_0() -> Vec<Plan> {
     let mut plans = Vec::new();
     let modes = MODES.map(|mode| (mode, 0)).into_iter();
-    for (mode, prefilter) in modes.chain([(NEAREST, 1)]) {
+    for (mode, prefilter) in modes.chain([(NEAREST, 1), (REPLICATE, 1)]) {
         for order in 0..=5 {
             let of = |entry| Asked {
                 dims: [6, 7, 8],

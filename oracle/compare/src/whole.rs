@@ -13,8 +13,8 @@ use std::ops::RangeInclusive;
 use std::sync::atomic::{AtomicUsize, Ordering};
 use std::thread;
 
-use ndarray_ndimage::BorderMode;
 use requests::document::FARTHEST;
+use requests::request::Mode;
 
 use fold::Fold;
 use judge::{Judge, Tally, COLUMNS};
@@ -53,7 +53,7 @@ const PROGRAMS: [Program; 2] = [Program::Library, Program::Fold];
 /// One mode on an axis of one length.
 #[derive(Clone, Copy, Debug)]
 struct Axis {
-    mode: BorderMode<f64>,
+    mode: Mode,
     length: i64,
 }
 
@@ -66,6 +66,11 @@ trait Witness {
     const LONGEST: i64;
     /// How far beyond the coordinates of voxels it is asked.
     const BEYOND: i64;
+
+    /// Whether it can be asked about the axis.
+    fn knows(axis: Axis) -> bool {
+        axis.length <= Self::LONGEST
+    }
 
     fn axis(&self) -> Axis;
 
@@ -80,12 +85,13 @@ trait Witness {
 const FILL: f64 = -1.0;
 
 /// In the order of their numbers in the door for C.
-const MODES: [BorderMode<f64>; 5] = [
-    BorderMode::Constant(FILL),
-    BorderMode::Mirror,
-    BorderMode::Nearest,
-    BorderMode::Reflect,
-    BorderMode::Wrap,
+const MODES: [Mode; 6] = [
+    Mode::Constant(FILL),
+    Mode::Mirror,
+    Mode::Nearest,
+    Mode::Reflect,
+    Mode::Wrap,
+    Mode::Replicate,
 ];
 
 /// The axes that any program is asked about.
@@ -125,7 +131,8 @@ pub fn sweep(reach: Reach) -> Result<String, String> {
 fn table(tallies: &Tallies) -> String {
     let mut table = format!("{:24}{COLUMNS}", "");
     for (mode, tallies) in MODES.iter().zip(tallies) {
-        for (program, tally) in PROGRAMS.iter().zip(tallies) {
+        let asked = PROGRAMS.iter().zip(tallies);
+        for (program, tally) in asked.filter(|(_, tally)| !tally.is_empty()) {
             let (mode, program) = (format!("{mode:?}"), format!("{program:?}"));
             table += &format!("\n{mode:16}{program:8}{tally}");
         }
@@ -170,7 +177,7 @@ fn at_length(reach: Reach, length: usize) -> Result<Tallies, String> {
 
 fn seen_by<W: Witness>(of: fn(Axis) -> W, axis: Axis, all: bool) -> Result<Tally, String> {
     let mut tally = Tally::default();
-    if axis.length <= W::LONGEST {
+    if W::knows(axis) {
         let mut witness = of(axis);
         for stretch in stretches(axis.length, W::BEYOND, all) {
             tally.add(&check(&mut witness, stretch, |_, landing| landing)?);

@@ -1,11 +1,11 @@
-//! The inputs that docs/DIFFERENCES.md gives for document 01's departures. Each lane of the last axis is
-//! 10 20 30 …, and that axis is moved.
+//! The inputs that docs/DIFFERENCES.md gives for document 01's departures, and for Replicate beside SciPy.
+//! Each lane of the last axis is 10 20 30 …, and that axis is moved.
 
 use requests::plan::{Plan, Voxels};
-use requests::request::{Asked, Entry, CONSTANT, MIRROR, NEAREST, REFLECT, WRAP};
+use requests::request::{Asked, Entry, CONSTANT, MIRROR, NEAREST, REFLECT, REPLICATE, WRAP};
 
 /// Axes of 2: a mode, a shift, an order and the prefilter's flag.
-const SMALLEST: [(u32, f64, usize, u32); 9] = [
+const SMALLEST: [(u32, f64, usize, u32); 14] = [
     (NEAREST, 1.0, 1, 0),
     (NEAREST, 13.0, 3, 1),
     (REFLECT, 8.0, 1, 0),
@@ -15,10 +15,15 @@ const SMALLEST: [(u32, f64, usize, u32); 9] = [
     (WRAP, 1.0, 1, 0),
     (WRAP, -2.0, 1, 0),
     (CONSTANT, -0.5, 0, 0),
+    (REPLICATE, 1.0, 1, 0),
+    (REPLICATE, -0.5, 0, 0),
+    (REPLICATE, 1.0, 2, 0),
+    (REPLICATE, 0.5, 3, 1),
+    (REPLICATE, 13.0, 3, 1),
 ];
 
-/// A last axis of 4, order 0: refusal 9 in every mode.
-const BESIDE: [(u32, f64); 7] = [
+/// A last axis of 4, order 0: refusal 9 in every mode but Replicate.
+const BESIDE: [(u32, f64); 8] = [
     (CONSTANT, -0.5),
     (MIRROR, -0.5),
     (NEAREST, -0.5),
@@ -26,6 +31,7 @@ const BESIDE: [(u32, f64); 7] = [
     (WRAP, -0.5),
     (NEAREST, -1.0),
     (REFLECT, 0.25),
+    (REPLICATE, -0.5),
 ];
 
 pub fn plans() -> Vec<Plan> {
@@ -38,9 +44,12 @@ pub fn plans() -> Vec<Plan> {
     let beside = BESIDE
         .iter()
         .map(|(mode, shift)| shifted(4, *mode, *shift, 0));
-    let asked = smallest
-        .chain(beside)
-        .chain([all_dropped_beside(), last_zoomed()]);
+    let asked = smallest.chain(beside).chain([
+        all_dropped_beside(),
+        last_zoomed(CONSTANT),
+        last_zoomed(REPLICATE),
+        shifted(4, REPLICATE, -3.0, 2),
+    ]);
     asked.map(on_lanes).collect()
 }
 
@@ -65,11 +74,11 @@ fn all_dropped_beside() -> Asked {
 }
 
 /// The last coordinate rounds above the last voxel.
-fn last_zoomed() -> Asked {
+fn last_zoomed(mode: u32) -> Asked {
     Asked {
         entry: Entry::Zoom,
         factors: [1.0, 1.0, 3.25],
-        ..shifted(8, CONSTANT, 0.0, 1)
+        ..shifted(8, mode, 0.0, 1)
     }
 }
 

@@ -1,8 +1,8 @@
-//! What the file promises to have: every entry, mode, order and flag carried out, shifts that drop some
-//! voxels and keep others, shifts and zooms that fold some voxels' neighbours and no others', and every
-//! refusal of every entry.
+//! What the file promises to have: every entry, mode, order and flag carried out, shifts that drop or
+//! clamp some voxels and leave others, shifts and zooms that fold some voxels' neighbours and no others',
+//! and every refusal of every entry.
 
-use requests::request::{Entry, CONSTANT, ENTRIES, MODES, NEAREST, REFLECT};
+use requests::request::{Asked, Entry, CONSTANT, ENTRIES, MODES, NEAREST, REFLECT, REPLICATE};
 
 use crate::record::Answered;
 
@@ -20,7 +20,7 @@ pub fn check(calls: &[Answered]) -> Result<(), String> {
                 let is_of = |call: &Answered| {
                     call.answer == 0 && (call.asked.mode, call.asked.order) == (mode, order)
                 };
-                let folds = entry.resamples() && order > 0;
+                let folds = entry.resamples() && order >= first_to_fold(mode);
                 if folds {
                     let what = format!("{what}, codes 0 and 3");
                     find(calls, entry, &what, |call| is_of(call) && folds_some(call))?;
@@ -33,6 +33,12 @@ pub fn check(calls: &[Answered]) -> Result<(), String> {
                         let what = format!("{what}, some voxels dropped");
                         find(calls, entry, &what, |call| is_it(call) && drops_some(call))?;
                     }
+                    if entry == Entry::Shift && mode == REPLICATE {
+                        let what = format!("{what}, some voxels clamped");
+                        find(calls, entry, &what, |call| {
+                            is_it(call) && clamps_some(&call.asked)
+                        })?;
+                    }
                     if folds {
                         let what = format!("{what}, code 3");
                         find(calls, entry, &what, |call| {
@@ -44,6 +50,14 @@ pub fn check(calls: &[Answered]) -> Result<(), String> {
         }
     }
     Ok(())
+}
+
+/// Code 3 begins at order 1, and where coordinates are clamped at order 2.
+fn first_to_fold(mode: u32) -> usize {
+    match mode {
+        REPLICATE => 2,
+        _ => 1,
+    }
 }
 
 /// The modes that drop voxels.
@@ -85,6 +99,14 @@ fn chosen(call: &Answered) -> usize {
 fn drops_some(call: &Answered) -> bool {
     let [computed, filled, defaulted, folded] = call.counts;
     computed + folded > 0 && filled + defaulted > 0
+}
+
+/// Whether some index of an axis is clamped, and some of each axis is not.
+fn clamps_some(asked: &Asked) -> bool {
+    let outputs = asked.output_dims();
+    let is_clamped = |axis, index| asked.coordinate(axis, index) != asked.settled(axis, index);
+    (0..3).any(|axis| (0..outputs[axis]).any(|index| is_clamped(axis, index)))
+        && (0..3).all(|axis| !(0..outputs[axis]).all(|index| is_clamped(axis, index)))
 }
 
 fn folds_some(call: &Answered) -> bool {

@@ -14,7 +14,7 @@ const MOST_INPUT: usize = 1024;
 const MOST_OUTPUT: usize = 4096;
 const MOST_WORK: usize = 20_480;
 /// The most words of the file.
-const MOST_WORDS: usize = 163_840;
+const MOST_WORDS: usize = 196_608;
 
 /// What a longer buffer is cut to. Such a request meets an earlier refusal, or the one for lengths.
 const SHORT: usize = 4;

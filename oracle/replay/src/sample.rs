@@ -1,9 +1,9 @@
 //! Requests that are carried out, but for some of order 0: every entry, mode, order and flag, lengths
 //! about the prefilter's cut-offs, and volumes in which some voxels bear 0 and others 3.
 
-use requests::document::LARGEST;
+use requests::document::{count, LARGEST};
 use requests::plan::{Off, Plan, Voxels, VOXELS};
-use requests::request::{Asked, Entry, MIRROR, MODES, NEAREST, REFLECT};
+use requests::request::{Asked, Entry, MIRROR, MODES, REFLECT};
 use requests::spoils::sound;
 
 /// Of a volume of 2 by 3 by 4. Each mode that drops coordinates drops some in one of them and keeps
@@ -61,7 +61,7 @@ fn resampled(entry: Entry, factors: &[[f64; 3]]) -> Vec<Plan> {
 /// volume are many, so that all calls have the same volume there.
 fn by_turns(mut asked: Asked, turn: usize) -> Plan {
     asked.fill = FILLS[turn % FILLS.len()];
-    let is_padded = asked.mode == NEAREST && asked.needed() > 0;
+    let is_padded = asked.needed() > count(asked.dims);
     Plan {
         voxels: if is_padded {
             Voxels::Ordinary

@@ -1,11 +1,11 @@
 //! Document 01 in plain Rust: the lengths of buffers, and the number that a request is answered
-//! with; the counts are four since document 02's #103. The fold alone is the Rust's own, as document 01
-//! has it.
+//! with; the counts are four since document 02's #103, the modes six since #104. The fold alone is the
+//! Rust's own, as document 01 has it.
 
 use ndarray_ndimage::probe::map_coordinates;
 use ndarray_ndimage::BorderMode;
 
-use crate::request::{Asked, Entry, Request, CONSTANT, MIRROR, NEAREST, REFLECT, WRAP};
+use crate::request::{Asked, Entry, Mode, Request};
 
 /// The most places of a volume or of work.
 const MOST_PLACES: usize = 1 << 27;
@@ -15,7 +15,7 @@ pub const LARGEST: f64 = (1u128 << 100) as f64;
 pub const FARTHEST: f64 = (1 << 20) as f64;
 /// How many codes there are, and places of the counts.
 pub const CODES: usize = 4;
-/// The answer to a mode that is none of the five.
+/// The answer to a mode that is none of the six.
 pub const UNKNOWN_MODE: u32 = 255;
 
 /// Whether a refusal applies, asked only where no earlier one does.
@@ -84,7 +84,7 @@ fn buffer_refused(request: &Request) -> bool {
 }
 
 fn value_refused(Request { asked, input, .. }: &Request) -> bool {
-    let has_fill = matches!(asked.mode(), Some(BorderMode::Constant(_)));
+    let has_fill = matches!(asked.mode(), Some(Mode::Constant(_)));
     has_fill && !is_value(&asked.fill) || !input.iter().all(is_value)
 }
 
@@ -110,18 +110,9 @@ fn is_value(value: &f64) -> bool {
 
 /// Whether a coordinate of the axis is kept, but rounds to an index outside. Order 0 never pads.
 fn beside(asked: &Asked, axis: usize) -> bool {
-    let (length, outputs) = (asked.dims[axis], asked.output_dims()[axis]);
-    let (shift, ratio) = match asked.entry {
-        Entry::Shift => (-asked.factors[axis], 1.0),
-        _ => (0.0, (length - 1) as f64 / (outputs - 1) as f64),
-    };
-    let length = length as f64;
-    (0..outputs).any(|index| {
-        let at = (index as f64 + shift) * ratio + 0.0;
-        let at = match asked.mode() {
-            Some(mode) if mode != BorderMode::Nearest => map_coordinates(at, length, mode),
-            _ => at,
-        };
+    let length = asked.dims[axis] as f64;
+    (0..asked.output_dims()[axis]).any(|index| {
+        let at = asked.settled(axis, index);
         let nearest = (at + 0.5).floor();
         at > -1.0 && !(0.0 <= nearest && nearest < length)
     })
@@ -158,15 +149,8 @@ pub fn work_count(asked: &Asked) -> usize {
 
 impl Asked {
     /// The border mode that the numbers name.
-    pub fn mode(&self) -> Option<BorderMode<f64>> {
-        match self.mode {
-            CONSTANT => Some(BorderMode::Constant(self.fill)),
-            MIRROR => Some(BorderMode::Mirror),
-            NEAREST => Some(BorderMode::Nearest),
-            REFLECT => Some(BorderMode::Reflect),
-            WRAP => Some(BorderMode::Wrap),
-            _ => None,
-        }
+    pub fn mode(&self) -> Option<Mode> {
+        Mode::of(self.mode, self.fill)
     }
 
     pub fn output_dims(&self) -> [usize; 3] {
@@ -176,11 +160,38 @@ impl Asked {
         }
     }
 
+    /// The coordinate of an output index before any pad, fold or clamp.
+    pub fn coordinate(&self, axis: usize, index: usize) -> f64 {
+        let (shift, ratio) = match self.entry {
+            Entry::Shift => (-self.factors[axis], 1.0),
+            _ => {
+                let (length, outputs) = (self.dims[axis], self.output_dims()[axis]);
+                (0.0, (length - 1) as f64 / (outputs - 1) as f64)
+            }
+        };
+        (index as f64 + shift) * ratio
+    }
+
+    /// The coordinate after the mode's fold, or after Replicate's clamp. Nearest is not folded.
+    pub fn settled(&self, axis: usize, index: usize) -> f64 {
+        let (at, length) = (self.coordinate(axis, index), self.dims[axis] as f64);
+        match self.mode() {
+            None | Some(Mode::Nearest) => at,
+            Some(Mode::Replicate) => at.clamp(0.0, length - 1.0),
+            Some(mode) => map_coordinates(at, length, mode.rusts()),
+        }
+    }
+
+    /// Whether the prefilter pads the volume in this mode.
+    fn pads(&self) -> bool {
+        self.mode().map(Mode::rusts) == Some(BorderMode::Nearest)
+    }
+
     /// The places of work that `shift` and `zoom` need, were there no refusal.
     fn resampling_work(&self) -> usize {
         if self.prefilter == 0 || self.order < 2 {
             0
-        } else if self.mode() == Some(BorderMode::Nearest) {
+        } else if self.pads() {
             count(self.dims.map(|length| length.saturating_add(24)))
         } else {
             count(self.dims)

@@ -11,13 +11,13 @@ pub fn outcome(request: &Request) -> Result<Outcome, String> {
     let asked = &request.asked;
     let status = document::answer(request);
     let mut lent = Lent::new(request);
-    match (status, asked.mode()) {
-        (0, Some(mode)) => {
-            let theirs =
-                theirs::call(request, mode).ok_or("no refusal applies, and the Rust panics")?;
+    match status {
+        0 => {
+            let theirs = theirs::call(asked, &request.input);
+            let theirs = theirs.ok_or("no refusal applies, and the Rust panics")?;
             write(&mut lent, request, &theirs)?;
         }
-        (9, Some(mode)) if theirs::call(request, mode).is_some() => {
+        9 if theirs::call(asked, &request.input).is_some() => {
             return Err("refusal 9 applies, and the Rust does not panic".into());
         }
         _ => {}
@@ -37,7 +37,7 @@ pub fn outcome(request: &Request) -> Result<Outcome, String> {
 /// Writes what the Rust gives where the library must write it, and nothing else.
 fn write(lent: &mut Lent, request: &Request, theirs: &Theirs) -> Result<(), String> {
     let needed = request.asked.needed();
-    if theirs.values.len() != lent.output.length() || theirs.coefficients.len() != needed {
+    if theirs.dims != request.asked.output_dims() || theirs.coefficients.len() != needed {
         return Err("the Rust's volumes have other lengths than document 01 says".into());
     }
     put(lent.output.lent_mut(), &theirs.values);

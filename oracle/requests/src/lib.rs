@@ -6,6 +6,7 @@ pub mod expected;
 pub mod lent;
 pub mod outcome;
 pub mod plan;
+mod replicate;
 pub mod request;
 pub mod spoils;
 pub mod theirs;

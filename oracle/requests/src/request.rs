@@ -2,6 +2,8 @@
 
 use std::fmt;
 
+use ndarray_ndimage::BorderMode;
+
 #[derive(Clone, Copy, Debug, PartialEq)]
 pub enum Entry {
     Shift,
@@ -39,8 +41,47 @@ pub const MIRROR: u32 = 1;
 pub const NEAREST: u32 = 2;
 pub const REFLECT: u32 = 3;
 pub const WRAP: u32 = 4;
+pub const REPLICATE: u32 = 5;
 
-pub const MODES: [u32; 5] = [CONSTANT, MIRROR, NEAREST, REFLECT, WRAP];
+pub const MODES: [u32; 6] = [CONSTANT, MIRROR, NEAREST, REFLECT, WRAP, REPLICATE];
+
+/// A border mode: the Rust's five, and document 02's (#104).
+#[derive(Clone, Copy, Debug, PartialEq)]
+pub enum Mode {
+    Constant(f64),
+    Mirror,
+    Nearest,
+    Reflect,
+    Wrap,
+    Replicate,
+}
+
+impl Mode {
+    /// The mode of a number. Constant alone has the fill.
+    pub fn of(number: u32, fill: f64) -> Option<Mode> {
+        match number {
+            CONSTANT => Some(Mode::Constant(fill)),
+            MIRROR => Some(Mode::Mirror),
+            NEAREST => Some(Mode::Nearest),
+            REFLECT => Some(Mode::Reflect),
+            WRAP => Some(Mode::Wrap),
+            REPLICATE => Some(Mode::Replicate),
+            _ => None,
+        }
+    }
+
+    /// The Rust's mode with the same prefilter, pad and neighbours. The Rust has no Replicate, which
+    /// has them of Nearest.
+    pub fn rusts(self) -> BorderMode<f64> {
+        match self {
+            Mode::Constant(fill) => BorderMode::Constant(fill),
+            Mode::Mirror => BorderMode::Mirror,
+            Mode::Nearest | Mode::Replicate => BorderMode::Nearest,
+            Mode::Reflect => BorderMode::Reflect,
+            Mode::Wrap => BorderMode::Wrap,
+        }
+    }
+}
 
 /// The numbers of a request. An entry reads those that it has arguments for.
 #[derive(Clone, Copy)]
@@ -91,6 +132,7 @@ impl fmt::Display for Request {
             NEAREST => write!(f, "nearest")?,
             REFLECT => write!(f, "reflect")?,
             WRAP => write!(f, "wrap")?,
+            REPLICATE => write!(f, "replicate")?,
             unknown => write!(f, "{unknown}")?,
         }
         write!(f, " input")?;

@@ -2,7 +2,7 @@
 
 use crate::document::{FARTHEST, LARGEST};
 use crate::plan::Plan;
-use crate::request::{Asked, Entry, CONSTANT, MIRROR, NEAREST};
+use crate::request::{Asked, Entry, CONSTANT, MIRROR, NEAREST, REPLICATE};
 
 pub type Spoil = fn(&mut Plan);
 
@@ -70,6 +70,8 @@ pub const SPOILS: &[Spoil] = &[
     |p| p.asked.dims = [4096, 4096, 4096],
     |p| (p.asked.dims, p.asked.mode) = ([488, 488, 488], NEAREST),
     |p| (p.asked.dims, p.asked.mode) = ([488, 488, 489], NEAREST),
+    |p| (p.asked.dims, p.asked.mode) = ([488, 488, 488], REPLICATE),
+    |p| (p.asked.dims, p.asked.mode) = ([488, 488, 489], REPLICATE),
     |p| (p.asked.dims, p.asked.factors) = ([2, 2, 2], [2048.0, 2048.0, 4.0]),
     |p| (p.asked.dims, p.asked.factors) = ([2, 2, 2], [4.5, 2048.0, 2048.0]),
     // 7
@@ -96,12 +98,14 @@ pub const SPOILS: &[Spoil] = &[
     |p| p.asked.fill = LARGEST.next_up(),
     |p| p.asked.fill = -LARGEST,
     |p| (p.asked.mode, p.asked.fill) = (MIRROR, f64::NAN),
-    // 9
+    |p| (p.asked.mode, p.asked.fill) = (REPLICATE, f64::INFINITY),
+    // 9, which Replicate never meets
     |p| (p.asked.order, p.asked.factors) = (0, [0.0, 0.0, -0.5]),
     |p| (p.asked.order, p.asked.factors) = (0, [5.0, 0.0, -0.5]),
     |p| (p.asked.order, p.asked.factors) = (0, [0.0, 0.5, -0.5f64.next_down()]),
+    |p| (p.asked.mode, p.asked.order, p.asked.factors) = (REPLICATE, 0, [5.0, 0.75, -0.5]),
     // 255
-    |p| p.asked.mode = 5,
+    |p| p.asked.mode = REPLICATE + 1,
     |p| p.asked.mode = 255,
     |p| p.asked.mode = u32::MAX,
 ];

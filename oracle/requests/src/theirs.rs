@@ -5,21 +5,36 @@ use ndarray_ndimage::probe::{coefficients, Axes};
 use ndarray_ndimage::{shift, spline_filter, spline_filter1d, zoom, BorderMode};
 use shared::rust;
 
-use crate::request::{Asked, Entry, Request};
+use crate::replicate;
+use crate::request::{Asked, Entry, Mode};
 
 /// What the Rust gives. The filters have no codes; without a prefilter there are no coefficients.
 pub struct Theirs {
+    pub dims: [usize; 3],
     pub values: Vec<f64>,
     pub codes: Vec<u8>,
     pub coefficients: Vec<f64>,
 }
 
-/// What the Rust gives for a request that passes refusals 1 to 8; `None` where it panics.
-pub fn call(request: &Request, mode: BorderMode<f64>) -> Option<Theirs> {
-    rust::call(|| answer(request, mode))
+impl Theirs {
+    /// The value and the code of a voxel.
+    pub fn voxel(&self, [x, y, z]: [usize; 3]) -> (f64, u8) {
+        let [_, d1, d2] = self.dims;
+        let place = (x * d1 + y) * d2 + z;
+        (self.values[place], self.codes[place])
+    }
 }
 
-fn answer(request: &Request, mode: BorderMode<f64>) -> Theirs {
+/// What the Rust gives for a request that passes refusals 1 to 8; `None` where it panics. In Replicate,
+/// what its answers in Nearest come to.
+pub fn call(asked: &Asked, input: &[f64]) -> Option<Theirs> {
+    match asked.mode()? {
+        Mode::Replicate => replicate::call(asked, input),
+        mode => rust::call(|| answer(asked, input, mode.rusts())),
+    }
+}
+
+fn answer(asked: &Asked, input: &[f64], mode: BorderMode<f64>) -> Theirs {
     let &Asked {
         entry,
         dims,
@@ -27,24 +42,18 @@ fn answer(request: &Request, mode: BorderMode<f64>) -> Theirs {
         order,
         axis,
         ..
-    } = &request.asked;
-    let [d0, d1, d2] = dims;
-    let prefilter = request.asked.prefilter != 0;
-    let data = Array3::from_shape_vec((d0, d1, d2), request.input.clone())
-        .expect("as many voxels as the dimensions say");
+    } = asked;
+    let prefilter = asked.prefilter != 0;
+    let data =
+        Array3::from_shape_vec(dims, input.to_vec()).expect("as many voxels as the dimensions say");
     let resampled = |values: Array3<f64>, axes: Axes| Theirs {
-        values: flat(values),
         codes: axes.codes(order, mode),
         coefficients: if prefilter && order > 1 {
-            flat(coefficients(&data, order, mode, prefilter))
+            flat(&coefficients(&data, order, mode, prefilter))
         } else {
             Vec::new()
         },
-    };
-    let filtered = |values| Theirs {
-        values: flat(values),
-        codes: Vec::new(),
-        coefficients: Vec::new(),
+        ..filtered(values)
     };
     match entry {
         Entry::Shift => resampled(
@@ -60,7 +69,17 @@ fn answer(request: &Request, mode: BorderMode<f64>) -> Theirs {
     }
 }
 
-fn flat(volume: Array3<f64>) -> Vec<f64> {
+fn filtered(values: Array3<f64>) -> Theirs {
+    let (d0, d1, d2) = values.dim();
+    Theirs {
+        dims: [d0, d1, d2],
+        values: flat(&values),
+        codes: Vec::new(),
+        coefficients: Vec::new(),
+    }
+}
+
+fn flat(volume: &Array3<f64>) -> Vec<f64> {
     let values = volume.as_slice();
     values.expect("a volume in the order of memory").to_vec()
 }

@@ -17,10 +17,10 @@ pub fn keep_caught_panics_quiet() {
     }));
 }
 
-/// What the call gives; `None` where it panics.
+/// What the call gives; `None` where it panics. One call may stand in another.
 pub fn call<T>(call: impl FnOnce() -> T) -> Option<T> {
-    IN_THE_RUST.set(true);
+    let before = IN_THE_RUST.replace(true);
     let outcome = panic::catch_unwind(AssertUnwindSafe(call));
-    IN_THE_RUST.set(false);
+    IN_THE_RUST.set(before);
     outcome.ok()
 }

@@ -1,6 +1,7 @@
 //! The Rust's own fold, asked for one coordinate at a time.
 
 use ndarray_ndimage::probe::map_coordinates;
+use requests::request::Mode;
 
 use super::{Axis, Landing, Program, Stretch, Witness};
 
@@ -15,6 +16,11 @@ impl Witness for Fold {
     /// The pad, and at order 5 three neighbours.
     const BEYOND: i64 = PAD + 3;
 
+    /// The Rust's fold has no sixth mode.
+    fn knows(axis: Axis) -> bool {
+        axis.length <= Self::LONGEST && axis.mode != Mode::Replicate
+    }
+
     fn axis(&self) -> Axis {
         self.0
     }
@@ -26,7 +32,7 @@ impl Witness for Fold {
     ) -> Result<(), String> {
         let Axis { mode, length } = self.0;
         for at in stretch {
-            let folded = map_coordinates(at as f64, length as f64, mode);
+            let folded = map_coordinates(at as f64, length as f64, mode.rusts());
             let landing = match folded {
                 -1.0 => Landing::Outside,
                 _ => Landing::voxel(folded),

@@ -20,6 +20,10 @@ pub struct Tally {
 }
 
 impl Tally {
+    pub fn is_empty(&self) -> bool {
+        self.seen == 0
+    }
+
     pub fn add(&mut self, other: &Tally) {
         self.seen += other.seen;
         self.on_voxel += other.on_voxel;

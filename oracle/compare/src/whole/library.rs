@@ -1,10 +1,9 @@
 //! The library, asked by whole shifts of a volume whose voxels bear their index on one axis. A call
 //! answers for as many coordinates as the axis is long.
 
-use ndarray_ndimage::BorderMode;
 use requests::lent::Lent;
 use requests::plan::Plan;
-use requests::request::{Asked, Entry};
+use requests::request::{Asked, Entry, Mode};
 use requests::spoils::sound;
 
 use super::{Axis, Landing, Program, Stretch, Witness, FILL, MODES};
@@ -31,7 +30,7 @@ impl Library {
         let mut dims = [2; 3];
         dims[number] = length;
         let places = places(dims, number);
-        let asked = asked(axis.mode, dims);
+        let asked = asked(axis, dims);
         let mut request = Plan::of(asked, 0).request();
         for (index, places) in places.iter().enumerate() {
             for place in places {
@@ -63,9 +62,9 @@ impl Library {
     }
 
     /// The code of a kept voxel. Beyond the axis Nearest reads its voxel as a folded neighbour's, at
-    /// order 1; the other modes have order 0, which has no code 3.
+    /// order 1. Replicate clamps the coordinate, and the other modes have order 0, which has no code 3.
     fn kept_code(&self, at: i64) -> u8 {
-        if self.axis.mode == BorderMode::Nearest && at >= self.axis.length {
+        if self.axis.mode == Mode::Nearest && at >= self.axis.length {
             3
         } else {
             0
@@ -82,7 +81,7 @@ impl Library {
         if let Some((code, bits)) = different {
             return Landing::Neither(code, f64::from_bits(bits));
         }
-        let is_constant = matches!(self.axis.mode, BorderMode::Constant(_));
+        let is_constant = matches!(self.axis.mode, Mode::Constant(_));
         match (of_first.0, f64::from_bits(of_first.1)) {
             (code, value) if code == self.kept_code(at) => Landing::voxel(value),
             (1, FILL) if is_constant => Landing::Outside,
@@ -121,18 +120,26 @@ impl Witness for Library {
     }
 }
 
-/// Order 0 copies one voxel. In Nearest it refuses what lies beyond the axis; order 1 does not, and has
-/// the weights 1 and 0.
-fn asked(mode: BorderMode<f64>, dims: [usize; 3]) -> Asked {
-    let number = MODES.iter().position(|of_number| *of_number == mode);
+fn asked(axis: Axis, dims: [usize; 3]) -> Asked {
+    let number = MODES.iter().position(|mode| *mode == axis.mode);
     Asked {
         dims,
         factors: [0.0; 3],
-        order: usize::from(mode == BorderMode::Nearest),
+        order: order(axis),
         prefilter: 0,
-        mode: number.expect("one of the five") as u32,
+        mode: number.expect("one of the six") as u32,
         fill: FILL,
         ..sound(Entry::Shift).asked
+    }
+}
+
+/// Order 0 copies one voxel. In Nearest it refuses what lies beyond the axis; order 1 does not, and has
+/// the weights 1 and 0. Replicate is asked at both, by turns.
+fn order(Axis { mode, length }: Axis) -> usize {
+    match mode {
+        Mode::Nearest => 1,
+        Mode::Replicate => length as usize % 2,
+        _ => 0,
     }
 }
 

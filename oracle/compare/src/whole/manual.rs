@@ -1,7 +1,7 @@
 //! The SciPy manual's border rules, over whole numbers and without a fold: which voxel may stand at
 //! which coordinate. crates/border/specs/Manual.antt states them with the manual's words.
 
-use ndarray_ndimage::BorderMode;
+use requests::request::Mode;
 
 use super::Axis;
 
@@ -10,33 +10,33 @@ pub fn may_stand(Axis { mode, length }: Axis, at: i64, voxel: i64) -> bool {
     let is_voxel = 0 <= voxel && voxel < length;
     is_voxel
         && match mode {
-            BorderMode::Constant(_) => at == voxel,
-            BorderMode::Mirror => {
+            Mode::Constant(_) => at == voxel,
+            Mode::Mirror => {
                 let period = 2 * length - 2;
                 apart(period, at, voxel) || apart(period, at, -voxel)
             }
-            BorderMode::Nearest => {
+            Mode::Nearest | Mode::Replicate => {
                 at == voxel || at < 0 && voxel == 0 || at >= length && voxel == length - 1
             }
-            BorderMode::Reflect => {
+            Mode::Reflect => {
                 let period = 2 * length;
                 apart(period, at, voxel) || apart(period, at, -1 - voxel)
             }
-            BorderMode::Wrap => apart(length - 1, at, voxel),
+            Mode::Wrap => apart(length - 1, at, voxel),
         }
 }
 
 /// Whether any voxel stands there: in Constant none does beyond the edge.
 pub fn has_voxel(Axis { mode, length }: Axis, at: i64) -> bool {
     match mode {
-        BorderMode::Constant(_) => 0 <= at && at < length,
+        Mode::Constant(_) => 0 <= at && at < length,
         _ => true,
     }
 }
 
 /// Whether two voxels may stand there: in Wrap the first and the last overlap.
 pub fn is_overlap(axis: Axis, at: i64) -> bool {
-    axis.mode == BorderMode::Wrap && may_stand(axis, at, 0)
+    axis.mode == Mode::Wrap && may_stand(axis, at, 0)
 }
 
 /// Whether the one lies a whole number of periods away from the other.

@@ -1,7 +1,7 @@
 //! Where a program is known to depart from the manual, or to choose where the manual leaves it open:
 //! the cases of `Lands` (crates/border/specs/Landing.antt) and departure 1 of document 01, listed.
 
-use ndarray_ndimage::BorderMode;
+use requests::request::Mode;
 
 use super::{Axis, Landing, Program, Stretch};
 
@@ -13,14 +13,10 @@ pub fn named(program: Program, Axis { mode, length }: Axis, stretch: Stretch) ->
     let (from, to) = stretch.into_inner();
     match mode {
         // -2kL for k at least 2
-        BorderMode::Reflect => {
-            Box::new(multiples(2 * length, from..=to.min(-4 * length)).map(outside))
-        }
+        Mode::Reflect => Box::new(multiples(2 * length, from..=to.min(-4 * length)).map(outside)),
         // without a pad, whatever lies below 0; the fold alone drops nothing
-        BorderMode::Nearest if program == Program::Library => {
-            Box::new((from..=to.min(-1)).map(outside))
-        }
-        BorderMode::Wrap => {
+        Mode::Nearest if program == Program::Library => Box::new((from..=to.min(-1)).map(outside)),
+        Mode::Wrap => {
             let chosen = move |at| (at, Landing::Voxel(end_at_overlap(length, at)));
             Box::new(multiples(length - 1, from..=to).map(chosen))
         }

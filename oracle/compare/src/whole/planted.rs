@@ -11,7 +11,7 @@ type Fault = (&'static str, Program, usize, i64, Landing);
 const LENGTH: i64 = 4;
 
 #[rustfmt::skip]
-const FAULTS: [Fault; 9] = [
+const FAULTS: [Fault; 13] = [
     ("a wrong voxel", Program::Library, 1, 5, Landing::Voxel(2)),
     ("a wrong voxel of the fold", Program::Fold, 3, -6, Landing::Voxel(3)),
     ("a value between two voxels", Program::Library, 4, 2, Landing::Neither(0, 1.5)),
@@ -21,6 +21,10 @@ const FAULTS: [Fault; 9] = [
     ("a departure that is not named", Program::Library, 3, -8, Landing::Outside),
     ("the other end at an overlap", Program::Fold, 4, -3, Landing::Voxel(0)),
     ("an edge repeated below 0", Program::Library, 2, -1, Landing::Voxel(0)),
+    ("an edge not repeated below 0", Program::Library, 5, -1, Landing::Outside),
+    ("an edge not repeated far below 0", Program::Library, 5, -40, Landing::Outside),
+    ("the other edge repeated", Program::Library, 5, 4, Landing::Voxel(0)),
+    ("a repeated edge called folded", Program::Library, 5, 5, Landing::Neither(3, 3.0)),
 ];
 
 /// How many faults were planted; or the first that was not noticed.
