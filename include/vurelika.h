@@ -24,26 +24,33 @@
 #include <stddef.h>
 #include <stdint.h>
 
-#define VURELIKA_VERSION "0.2.0"
+#define VURELIKA_VERSION "0.3.0"
 
 #ifdef __cplusplus
 extern "C" {
 #endif
 
-/* What a coordinate outside the volume stands for. Constant alone has a fill. */
+/* What a coordinate outside the volume stands for. Constant alone has a fill.
+ *
+ * Whoever wants SciPy's mode='nearest' wants VURELIKA_REPLICATE. VURELIKA_NEAREST is the Rust's, and keeps its
+ * numbers: at coordinates at or below -1 (-13 where the voxels are filtered first) it writes 0.0, with code 2.
+ * Replicate clamps the coordinate to the volume before anything else, so it drops no voxel: there is no code 1
+ * or 2 and no VURELIKA_BESIDE. Above order 1 it stands still beyond the volume, where SciPy and Nearest go on
+ * along the spline. It needs as much work as Nearest. */
 enum {
-    VURELIKA_CONSTANT = 0,
-    VURELIKA_MIRROR = 1,
-    VURELIKA_NEAREST = 2,
-    VURELIKA_REFLECT = 3,
-    VURELIKA_WRAP = 4
+    VURELIKA_CONSTANT = 0,      /* the fill */
+    VURELIKA_MIRROR = 1,        /* the volume mirrored about its end voxels */
+    VURELIKA_NEAREST = 2,       /* the edge voxel, but 0.0 at and below -1 */
+    VURELIKA_REFLECT = 3,       /* the volume mirrored about its outer faces */
+    VURELIKA_WRAP = 4,          /* the volume again, first and last voxel as one */
+    VURELIKA_REPLICATE = 5      /* the edge voxel */
 };
 
 /* What a function returns: 0, or the first of these that applies, in the order in which they stand.
  * VURELIKA_MODE comes before the refusals and is none of them: no request could be formed. */
 enum {
     VURELIKA_DONE = 0,
-    VURELIKA_MODE = 255,        /* the mode is none of the five */
+    VURELIKA_MODE = 255,        /* the mode is none of the six */
     VURELIKA_NOT_NPY = 10,      /* the bytes are no whole .npy file of version 1.0, '<f8', C order and
                                    three axes */
     VURELIKA_ORDER = 1,         /* the order is above 5; for vurelika_spline_filter also 0 or 1 */
@@ -55,7 +62,8 @@ enum {
     VURELIKA_COUNT = 6,         /* input, output or needed work has more than 2^27 places */
     VURELIKA_BUFFER = 7,        /* a buffer has the wrong number of places */
     VURELIKA_VALUE = 8,         /* the fill or a voxel is not finite, or its size exceeds 2^100 */
-    VURELIKA_BESIDE = 9         /* order 0: a coordinate is kept, but its nearest voxel lies outside */
+    VURELIKA_BESIDE = 9         /* order 0: a coordinate is kept, but its nearest voxel lies outside; never
+                                   in Replicate */
 };
 
 /* What coverage says of a voxel, and what that means for a density.
@@ -68,9 +76,10 @@ enum {
  *
  * In Constant codes 0 and 3 say that the place lay in the scan: on each axis from 0 up to, not
  * including, the length. In the other modes they do not say so: a place beyond the scan is folded back
- * into it and computed there, and that is not remarked. After a shift by 13.5 on an axis of 20, 14 planes
- * come from before the scan. At order 1 Constant gives code 0 to 6 of the 20, Nearest to 6, with code 3 at
- * one more, Reflect to 19, with code 3 at one, and Mirror and Wrap to all of them.
+ * into it, or clamped to its edge, and computed there, and that is not remarked. After a shift by 13.5 on an
+ * axis of 20, 14 planes come from before the scan. At order 1 Constant gives code 0 to 6 of the 20, Nearest to
+ * 6, with code 3 at one more, Reflect to 19, with code 3 at one, and Mirror, Wrap and Replicate to all of
+ * them: in Replicate 14 are the edge again.
  *
  * So for a density choose Constant, and count the voxels of code 0 alone (where counts[0] is not 0):
  *
@@ -80,7 +89,7 @@ enum {
 enum {
     VURELIKA_COMPUTED = 0,      /* computed from voxels of the scan, each in its own place: count these */
     VURELIKA_FILLED = 1,        /* outside, in Constant: it holds the fill, bit for bit; no bone */
-    VURELIKA_DEFAULTED = 2,     /* outside, in another mode: it holds 0.0; no bone */
+    VURELIKA_DEFAULTED = 2,     /* outside, in another mode: it holds 0.0; no bone. Never in Replicate */
     VURELIKA_FOLDED = 3         /* computed, but a neighbour with a weight lay outside the scan, and a voxel
                                    inside was read in its stead: leave these out, or report them apart */
 };
@@ -115,7 +124,8 @@ uint32_t vurelika_zoom(size_t d0, size_t d1, size_t d2, double f0, double f1, do
                        uint64_t *counts, size_t counts_len);
 
 /* The spline coefficients of a volume, along all three axes. input and output have d0 * d1 * d2 places
- * each. Never pads, in Nearest neither. The fill is checked in mode Constant, though it is not used. */
+ * each. Never pads, in Nearest and Replicate neither. The fill is checked in mode Constant, though it is
+ * not used. */
 uint32_t vurelika_spline_filter(size_t d0, size_t d1, size_t d2, size_t order, uint32_t mode,
                                 double fill, const double *input, size_t input_len,
                                 double *output, size_t output_len);

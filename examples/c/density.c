@@ -12,7 +12,7 @@ static double input[VOXELS], output[VOXELS];
 static uint8_t coverage[VOXELS];
 static uint64_t counts[VURELIKA_CODES];
 
-static const char *const modes[] = {"Constant", "Mirror", "Nearest", "Reflect", "Wrap"};
+static const char *const modes[] = {"Constant", "Mirror", "Nearest", "Reflect", "Wrap", "Replicate"};
 
 /* The mean of the voxels of code 0. There must be one. */
 static double mean_density(void)
@@ -41,14 +41,14 @@ int main(void)
         input[i] = 10.0 * (double)(i / (D1 * D2));
 
     puts("mode      computed  filled  defaulted  folded  mean of code 0  mean of all");
-    for (uint32_t mode = VURELIKA_CONSTANT; mode <= VURELIKA_WRAP; mode++) {
+    for (uint32_t mode = VURELIKA_CONSTANT; mode <= VURELIKA_REPLICATE; mode++) {
         uint32_t refusal = vurelika_shift(D0, D1, D2, 13.5, 0.0, 0.0, 1, 0, mode, 0.0, input, VOXELS,
                                           output, VOXELS, coverage, VOXELS, NULL, 0, counts,
                                           VURELIKA_CODES);
 
         if (refusal != VURELIKA_DONE)
             return 1;
-        printf("%-8s%10" PRIu64 "%8" PRIu64 "%11" PRIu64 "%8" PRIu64 "%16g%13g\n", modes[mode],
+        printf("%-9s%9" PRIu64 "%8" PRIu64 "%11" PRIu64 "%8" PRIu64 "%16g%13g\n", modes[mode],
                counts[VURELIKA_COMPUTED], counts[VURELIKA_FILLED], counts[VURELIKA_DEFAULTED],
                counts[VURELIKA_FOLDED], mean_density(), mean_of_all());
     }

@@ -1,10 +1,10 @@
-/* What vurelika.h says of modes that are none, of counts, and of the two functions of sizes. */
+/* What vurelika.h says of modes that are none, of Replicate, of counts, and of the two functions of sizes. */
 #include <stdint.h>
 
 #include "hold.h"
 #include "vurelika.h"
 
-enum { D = 2, VOXELS = D * D * D, NO_MODE = 5, PAINT = 77 };
+enum { D = 2, VOXELS = D * D * D, NO_MODE = 6, PAINT = 77, FAR = (1 << 20) - 1 };
 enum { FEWER = VURELIKA_CODES - 1, MORE = VURELIKA_CODES + 1 };
 
 static const double input[VOXELS];
@@ -12,13 +12,18 @@ static double output[VOXELS];
 static uint8_t coverage[VOXELS];
 static uint64_t counts[MORE];
 
-/* A shift of a small volume by 0 with so many places of counts, which are painted before. */
-static uint32_t shift(size_t order, uint32_t mode, size_t counts_len)
+/* A shift of a small volume with so many places of counts, which are painted before. */
+static uint32_t shift_by(double by, size_t order, uint32_t mode, size_t counts_len)
 {
     for (size_t i = 0; i < MORE; i++)
         counts[i] = PAINT;
-    return vurelika_shift(D, D, D, 0.0, 0.0, 0.0, order, 0, mode, 0.0, input, VOXELS, output, VOXELS,
+    return vurelika_shift(D, D, D, by, by, by, order, 0, mode, 0.0, input, VOXELS, output, VOXELS,
                           coverage, VOXELS, NULL, 0, counts, counts_len);
+}
+
+static uint32_t shift(size_t order, uint32_t mode, size_t counts_len)
+{
+    return shift_by(0.0, order, mode, counts_len);
 }
 
 /* Whether counts begins with these four and is left alone after them. */
@@ -66,6 +71,19 @@ int main(void)
     hold(vurelika_spline_filter(0, 0, 0, 9, NO_MODE, 0.0, NULL, 0, NULL, 0) == VURELIKA_MODE
              && vurelika_spline_filter1d(0, 0, 0, 9, 3, NO_MODE, 0.0, NULL, 0, NULL, 0) == VURELIKA_MODE,
          "255 comes first in the filters");
+
+    for (uint32_t mode = VURELIKA_CONSTANT; mode < VURELIKA_REPLICATE; mode++)
+        hold(shift_by(-0.5, 0, mode, VURELIKA_CODES) == VURELIKA_BESIDE,
+             "half a voxel at order 0 is refusal 9 in the other five modes");
+    hold(shift_by(-0.5, 0, VURELIKA_REPLICATE, VURELIKA_CODES) == VURELIKA_DONE && has(VOXELS, 0, 0, 0),
+         "Replicate gives no refusal 9");
+    hold(shift_by(FAR, 1, VURELIKA_REPLICATE, VURELIKA_CODES) == VURELIKA_DONE && has(VOXELS, 0, 0, 0)
+             && shift_by(-FAR, 1, VURELIKA_REPLICATE, VURELIKA_CODES) == VURELIKA_DONE
+             && has(VOXELS, 0, 0, 0),
+         "nor does it drop a voxel, however far the shift");
+    hold(vurelika_work_count(D, D, D, 3, 1, VURELIKA_REPLICATE) == 26 * 26 * 26
+             && vurelika_work_count(D, D, D, 3, 1, VURELIKA_NEAREST) == 26 * 26 * 26,
+         "Replicate needs the work of Nearest, 24 more on each axis");
 
     hold(vurelika_work_count(4096, 4096, 4096, 3, 1, VURELIKA_MIRROR) == (size_t)1 << 36
              && vurelika_shift(4096, 4096, 4096, 0.0, 0.0, 0.0, 3, 1, VURELIKA_MIRROR, 0.0, NULL, 0, NULL, 0,

@@ -1,4 +1,4 @@
-/* Resamples the small volume of document 01 in nine ways: values, codes, counts.
+/* Resamples the small volume of document 01 in eleven ways: values, codes, counts.
  * usage: vurelika demo */
 #include <inttypes.h>
 #include <stdio.h>
@@ -12,7 +12,7 @@ enum { PLANES = 2, ROWS = 2, LENGTH = 4, VOXELS = PLANES * ROWS * LENGTH };
 enum { LONGEST = 7, ROOM = PLANES * ROWS * LONGEST }; /* the longest lane that comes out: zoom's */
 enum { WIDTH = LONGEST * 25 + 1 }; /* such a lane in print: a number takes at most 24 signs and a space */
 
-/* A request as the document names it. */
+/* A request, named as the document names its own. */
 struct request {
     const char *name;
     resampler *resample;
@@ -31,6 +31,8 @@ static const struct request requests[] = {
     {"Constant -1, -0.5, order 0", vurelika_shift, {0, 0, -0.5}, 0, VURELIKA_CONSTANT, 0, LENGTH},
     {"Nearest, 2", vurelika_shift, {0, 0, 2}, 1, VURELIKA_NEAREST, 0, LENGTH},
     {"Nearest, -2", vurelika_shift, {0, 0, -2}, 1, VURELIKA_NEAREST, 0, LENGTH},
+    {"Replicate, 2", vurelika_shift, {0, 0, 2}, 1, VURELIKA_REPLICATE, 0, LENGTH},
+    {"Replicate, -2", vurelika_shift, {0, 0, -2}, 1, VURELIKA_REPLICATE, 0, LENGTH},
     {"zoom 1, 1, 1.75, Mirror", vurelika_zoom, {1, 1, 1.75}, 1, VURELIKA_MIRROR, 0, LONGEST},
     {"Reflect, shift 8, 0, 0", vurelika_shift, {8, 0, 0}, 1, VURELIKA_REFLECT, 0, LENGTH},
 };

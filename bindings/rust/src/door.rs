@@ -183,5 +183,6 @@ fn mode_and_fill(mode: BorderMode) -> (u32, f64) {
         BorderMode::Nearest => (2, 0.0),
         BorderMode::Reflect => (3, 0.0),
         BorderMode::Wrap => (4, 0.0),
+        BorderMode::Replicate => (5, 0.0),
     }
 }

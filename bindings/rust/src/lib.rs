@@ -40,17 +40,18 @@ pub use refusal::Refusal;
 /// The code of a voxel that was computed from voxels of the scan, each in its own place.
 ///
 /// In mode Constant its place lay in the scan: on each axis from 0 up to, not including, the length. In
-/// the other modes this code does not say so: a place beyond the scan is folded back into it and
-/// computed there, and that is not remarked. After a shift by 13.5 on an axis of 20, 14 planes come from
-/// before the scan. At order 1 Constant gives this code to 6 of the 20, Nearest to 6, with [`FOLDED`] at
-/// one more, Reflect to 19, with [`FOLDED`] at one, and Mirror and Wrap to all of them. So for a density
-/// choose Constant, and count the voxels of this code alone.
+/// the other modes this code does not say so: a place beyond the scan is folded back into it, or clamped
+/// to its edge, and computed there, and that is not remarked. After a shift by 13.5 on an axis of 20, 14
+/// planes come from before the scan. At order 1 Constant gives this code to 6 of the 20, Nearest to 6,
+/// with [`FOLDED`] at one more, Reflect to 19, with [`FOLDED`] at one, and Mirror, Wrap and Replicate to
+/// all of them: in Replicate 14 are the edge again. So for a density choose Constant, and count the voxels
+/// of this code alone.
 pub const COMPUTED: u8 = 0;
 
 /// The code of a voxel outside, in mode Constant: it holds the fill, bit for bit.
 pub const FILLED: u8 = 1;
 
-/// The code of a voxel outside, in another mode: it holds 0.0.
+/// The code of a voxel outside, in another mode: it holds 0.0. Never in Replicate.
 pub const DEFAULTED: u8 = 2;
 
 /// The code of a voxel that was computed, but on some axis a neighbour with a weight other than 0 lay
@@ -76,18 +77,48 @@ pub const DEFAULTED: u8 = 2;
 pub const FOLDED: u8 = 3;
 
 /// What a coordinate outside the volume stands for.
+///
+/// Whoever wants SciPy's `mode='nearest'` wants [`Replicate`](BorderMode::Replicate).
+///
+/// ```
+/// # use vurelika::{shift, BorderMode, Request};
+/// let by_2 = |mode| {
+///     let request = Request {
+///         dims: [2, 2, 4],
+///         factors: [0.0, 0.0, 2.0],
+///         order: 1,
+///         prefilter: false,
+///         mode,
+///     };
+///     shift(&request, &[10.0, 20.0, 30.0, 40.0].repeat(4))
+/// };
+/// let repeated = by_2(BorderMode::Replicate)?;
+/// assert_eq!(repeated.voxels[..4], [10.0, 10.0, 10.0, 20.0]);
+/// assert_eq!(repeated.coverage[..4], [0, 0, 0, 0]);
+///
+/// let dropped = by_2(BorderMode::Nearest)?;
+/// assert_eq!(dropped.voxels[..4], [0.0, 0.0, 10.0, 20.0]);
+/// assert_eq!(dropped.coverage[..4], [2, 2, 0, 0]);
+/// # Ok::<(), vurelika::Refusal>(())
+/// ```
 #[derive(Clone, Copy, Debug, PartialEq)]
 pub enum BorderMode {
     /// Nothing: such a voxel takes this fill.
     Constant(f64),
     /// The volume mirrored about its end voxels.
     Mirror,
-    /// The edge voxel.
+    /// The edge voxel as the Rust has it, whose numbers this mode keeps: at coordinates at or below -1
+    /// (-13 where the voxels are filtered first) a voxel holds 0.0, with the code [`DEFAULTED`].
     Nearest,
     /// The volume mirrored about its outer faces.
     Reflect,
     /// The volume again, first and last voxel as one.
     Wrap,
+    /// The edge voxel: the coordinate is clamped to the volume before anything else. No voxel is dropped,
+    /// and no call is refused as [`Refusal::Beside`]. Above order 1 it stands still beyond the volume,
+    /// where SciPy and Nearest go on along the spline. At orders 0 and 1 every voxel bears [`COMPUTED`],
+    /// which says nothing of where its place lay: for a density choose Constant.
+    Replicate,
 }
 
 /// What is asked for.
@@ -323,7 +354,7 @@ pub fn zoom_into(
     Entry::Zoom.call(request, input, output, coverage, work)
 }
 
-/// The spline coefficients of a volume, along all three axes. Orders 2 to 5; never pads.
+/// The spline coefficients of a volume, along all three axes. Orders 2 to 5; never pads, whatever the mode.
 ///
 /// ```
 /// # use vurelika::{spline_filter, BorderMode, Request};

@@ -27,7 +27,7 @@ pub enum Refusal {
     Buffer = 7,
     /// The fill or a voxel is not finite, or its size exceeds 2^100.
     Value = 8,
-    /// At order 0 a coordinate is kept, but its nearest voxel lies outside.
+    /// At order 0 a coordinate is kept, but its nearest voxel lies outside. Never in Replicate.
     Beside = 9,
 }
 

@@ -1,8 +1,9 @@
-//! Document 01's numbers to hold to, their codes as document 02's #103 has them, and its own lines.
+//! Document 01's numbers to hold to, their codes as document 02's #103 has them, and the lines of #103 and
+//! of #104's mode.
 
 use vurelika::{
-    shift, spline_filter1d, zoom, BorderMode, Counts, Refusal, Request, Resampled, COMPUTED,
-    DEFAULTED, FILLED, FOLDED,
+    shift, spline_filter, spline_filter1d, zoom, BorderMode, Counts, Refusal, Request, Resampled,
+    COMPUTED, DEFAULTED, FILLED, FOLDED,
 };
 
 const LANE: [f64; 4] = [10.0, 20.0, 30.0, 40.0];
@@ -69,6 +70,55 @@ fn other_modes() -> Result<(), Refusal> {
     let wrapped = shift_last(1.0, 1, BorderMode::Wrap)?;
     assert_lanes(&wrapped, &[30.0, 10.0, 20.0, 30.0], &[0, 0, 0, 0]);
     Ok(())
+}
+
+/// What Nearest drops, or remarks as folded, is the edge here, of code 0.
+#[test]
+fn replicate() -> Result<(), Refusal> {
+    for (by, order, lane) in [
+        (2.0, 1, [10.0, 10.0, 10.0, 20.0]),
+        (-2.0, 1, [30.0, 40.0, 40.0, 40.0]),
+        (0.5, 1, [10.0, 15.0, 25.0, 35.0]),
+        (1048575.5, 1, [10.0; 4]),
+        (-1048575.5, 1, [40.0; 4]),
+        (2.0, 0, [10.0, 10.0, 10.0, 20.0]),
+        (-0.5, 0, [20.0, 30.0, 40.0, 40.0]),
+    ] {
+        let repeated = shift_last(by, order, BorderMode::Replicate)?;
+        assert_lanes(&repeated, &lane, &[COMPUTED; 4]);
+    }
+    Ok(())
+}
+
+/// Above order 1 the edge is blended with its neighbours, clamped to it in their turn: an eighth of 30,
+/// three quarters of 40, and an eighth of 40 again.
+#[test]
+fn replicate_above_order_1() -> Result<(), Refusal> {
+    let r = Request {
+        prefilter: false,
+        ..request([0.0, 0.0, -3.0], 2, BorderMode::Replicate)
+    };
+    assert_lanes(&shift(&r, &LANE.repeat(4))?, &[38.75; 4], &[FOLDED; 4]);
+
+    // Prefiltered, half a voxel before the scan: Nearest goes on along the spline.
+    for (mode, first) in [(BorderMode::Nearest, 9.19), (BorderMode::Replicate, 10.0)] {
+        assert!((shift_last(0.5, 3, mode)?.voxels[0] - first).abs() < 0.005);
+    }
+    Ok(())
+}
+
+/// Inside the scan Replicate is Nearest: the same filter, pad and neighbours.
+#[test]
+fn replicate_inside() {
+    for order in 2..=5 {
+        let [nearest, replicate] = [BorderMode::Nearest, BorderMode::Replicate].map(|mode| {
+            let r = request([1.5, 2.0, 1.75], order, mode);
+            let lanes = LANE.repeat(4);
+            (zoom(&r, &lanes), spline_filter(&r, &lanes))
+        });
+        assert!(nearest.0.is_ok() && nearest.1.is_ok());
+        assert_eq!(replicate, nearest);
+    }
 }
 
 /// A folded neighbour is remarked, a folded coordinate is not.

@@ -5,6 +5,18 @@ use vurelika_sys::VURELIKA_CODES;
 
 const HEADER: &str = include_str!("../../../include/vurelika.h");
 const WORDS: &str = include_str!("../../../host/vurelika/common/refusal.c");
+const MODE_WORDS: &str = include_str!("../../../host/vurelika/common/request.c");
+const HELP: &str = include_str!("../../../host/vurelika/shift.c");
+
+/// The modes, in the order of their numbers.
+const MODES: [&str; 6] = [
+    "CONSTANT",
+    "MIRROR",
+    "NEAREST",
+    "REFLECT",
+    "WRAP",
+    "REPLICATE",
+];
 
 /// A refusal as the header has it: `OutputLength` is `OUTPUT_LENGTH`.
 fn name(refusal: Refusal) -> String {
@@ -25,10 +37,21 @@ fn member(line: &str) -> Option<(String, u32)> {
     Some((name.into(), number.parse().ok()?))
 }
 
+/// Each name of a C file that stands between the two, with the text in quotes that follows it.
+fn named_strings(file: &str, before: &str, after: char) -> Vec<(String, String)> {
+    file.split(before)
+        .skip(1)
+        .map(|rest| {
+            let name = rest.split(after).next().unwrap_or_default();
+            let text = rest.split('"').nth(1).unwrap_or_default();
+            (name.into(), text.into())
+        })
+        .collect()
+}
+
 #[test]
 fn names_and_numbers() {
-    let modes = ["CONSTANT", "MIRROR", "NEAREST", "REFLECT", "WRAP"];
-    let mut expected: Vec<(String, u32)> = modes.map(String::from).into_iter().zip(0..).collect();
+    let mut expected: Vec<(String, u32)> = MODES.map(String::from).into_iter().zip(0..).collect();
     expected.extend([("DONE".into(), 0), ("MODE".into(), 255)]);
     expected.extend(Refusal::ALL.map(|refusal| (name(refusal), refusal.number())));
     let codes = [
@@ -56,19 +79,23 @@ fn definitions() {
     }
 }
 
+/// The launcher takes each mode by its name in small letters; its help and its complaint list them.
+#[test]
+fn mode_words() {
+    let expected = MODES.map(|name| (name.to_string(), name.to_lowercase()));
+    assert_eq!(named_strings(MODE_WORDS, "[VURELIKA_", ']'), expected);
+
+    let [first @ .., last] = MODES.map(str::to_lowercase);
+    let list = format!("{} or {last}", first.join(", "));
+    assert!(MODE_WORDS.contains(&list), "request.c has no {list}");
+    assert!(HELP.contains(&list), "shift.c has no {list}");
+}
+
 /// The launcher's meaning of each refusal, and no refusal that one of the two lacks.
 #[test]
 fn words() {
-    let meanings: Vec<_> = WORDS
-        .split("case VURELIKA_")
-        .skip(1)
-        .map(|case| {
-            let name = case.split(':').next().unwrap_or_default();
-            let meaning = case.split('"').nth(1).unwrap_or_default();
-            (name.to_string(), meaning.to_string())
-        })
-        .filter(|(name, _)| name != "DONE" && name != "MODE")
-        .collect();
+    let mut meanings = named_strings(WORDS, "case VURELIKA_", ':');
+    meanings.retain(|(name, _)| name != "DONE" && name != "MODE");
     let expected = Refusal::ALL.map(|refusal| {
         let said = refusal.to_string();
         let meaning = said.strip_prefix(&format!("refusal {}: ", refusal.number()));

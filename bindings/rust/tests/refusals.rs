@@ -108,8 +108,10 @@ fn count() {
     assert_eq!(spline_filter1d(&large, 0, &[]), Err(Refusal::Count));
     let output = with(|r| r.factors = [2048.0, 1365.0, 1024.0]);
     assert_eq!(zoom(&output, &zeros(&TAKEN)), Err(Refusal::Count));
-    let work = with(|r| (r.dims, r.mode) = ([512; 3], BorderMode::Nearest));
-    assert_eq!(shift(&work, &[]), Err(Refusal::Count));
+    for mode in [BorderMode::Nearest, BorderMode::Replicate] {
+        let work = with(|r| (r.dims, r.mode) = ([512; 3], mode));
+        assert_eq!(shift(&work, &[]), Err(Refusal::Count));
+    }
     // 2^27 voxels are taken, and then the input is found to be missing.
     let admitted = with(|r| r.dims = [512; 3]);
     assert_eq!(shift(&admitted, &[]), Err(Refusal::Buffer));
@@ -143,8 +145,20 @@ fn value() {
 
 #[test]
 fn beside() {
-    let half = with(|r| (r.order, r.factors) = (0, [0.0, 0.0, -0.5]));
-    assert_eq!(shift(&half, &zeros(&half)), Err(Refusal::Beside));
+    let half = |mode| {
+        let request = with(|r| (r.order, r.factors, r.mode) = (0, [0.0, 0.0, -0.5], mode));
+        shift(&request, &zeros(&request))
+    };
+    for mode in [
+        BorderMode::Constant(0.5),
+        BorderMode::Mirror,
+        BorderMode::Nearest,
+        BorderMode::Reflect,
+        BorderMode::Wrap,
+    ] {
+        assert_eq!(half(mode), Err(Refusal::Beside));
+    }
+    assert!(half(BorderMode::Replicate).is_ok());
 }
 
 /// Lent buffers that are too short, too long or just right: a refusal leaves each as it was.

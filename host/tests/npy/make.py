@@ -25,4 +25,5 @@ numpy.save(FOLDER / "single.npy", scan.astype("<f4"))
 
 numpy.save(FOLDER / "moved.npy", lanes([-1, 10, 20, 30]))
 numpy.save(FOLDER / "moved_codes.npy", lanes([1, 0, 0, 0], "|u1"))
+numpy.save(FOLDER / "repeated.npy", lanes([10, 10, 10, 20]))
 numpy.save(FOLDER / "zoomed.npy", lanes([10, 15, 20, 25, 30, 35, 40]))

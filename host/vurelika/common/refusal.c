@@ -28,7 +28,7 @@ const char *refusal_meaning(uint32_t number)
     case VURELIKA_BESIDE:
         return "at order 0 a coordinate is kept, but its nearest voxel lies outside";
     case VURELIKA_MODE:
-        return "the mode is none of the five";
+        return "the mode is none of the six";
     default:
         return "no number of this library";
     }

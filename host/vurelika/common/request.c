@@ -11,7 +11,7 @@
 
 static const char *const modes[] = {
     [VURELIKA_CONSTANT] = "constant", [VURELIKA_MIRROR] = "mirror", [VURELIKA_NEAREST] = "nearest",
-    [VURELIKA_REFLECT] = "reflect",   [VURELIKA_WRAP] = "wrap",
+    [VURELIKA_REFLECT] = "reflect",   [VURELIKA_WRAP] = "wrap",     [VURELIKA_REPLICATE] = "replicate",
 };
 
 static uint32_t mode_of(const char *word)
@@ -19,7 +19,7 @@ static uint32_t mode_of(const char *word)
     for (uint32_t mode = 0; mode < sizeof modes / sizeof modes[0]; mode++)
         if (strcmp(word, modes[mode]) == 0)
             return mode;
-    fail(EX_USAGE, "--mode is constant, mirror, nearest, reflect or wrap, not '%s'", word);
+    fail(EX_USAGE, "--mode is constant, mirror, nearest, reflect, wrap or replicate, not '%s'", word);
 }
 
 static size_t order_of(const char *word)
