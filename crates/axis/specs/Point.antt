@@ -19,6 +19,7 @@ use Rattle.axis.specs.Neighbours.{firstNeighbour, outside, neighbourInde
 abbrev pub empty : ℕ → Point
 empty mark = record { mark = mark; weight = replicate 6 (num 0); at = replicate 6 0 }
 
+-- whether a record with this mark is one of a kept index
 abbrev pub isKeptMark : ℕ → Bool
 isKeptMark mark = not (eqb mark 1)
 

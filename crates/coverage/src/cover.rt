@@ -28,7 +28,7 @@ pub fn drop_code(mode: BorderMode) -> u8
     }
 }
 
-pub fn is_kept(a: Axis, i: usize, mode: BorderMode) -> bool
+fn is_kept(a: Axis, i: usize, mode: BorderMode) -> bool
     ensures { λ r. ⌜ r ≡ keptAt mode a i ⌝ }
 {
     settled_at(a, i, mode) > -1.0
