@@ -1,5 +1,5 @@
 -- What the functions of this crate ask: the numbers that an admitted request can have.
-use Prim.Native.Nat.{ℕ, _≤_}
+use Prim.Native.Nat.{ℕ, _≤_, _<_}
 use lib.IntN.{pos}
 use mathlib.Core.Bool.{true, false}
 use lib.Dec.{T}
@@ -35,3 +35,8 @@ pub record Kept (order len : ℕ) (to : Float) : Type 0 where
   pub most : len ≤ longestPadded
   pub bound : Within 30 to
   pub above : T (kept to)
+
+-- an axis all of whose output indices a request can have
+pub record Reaches (order : ℕ) (a : Axis) : Type 0 where
+  pub short : a .out ≤ longest
+  pub each : (i : ℕ) → i < a .out → Reached order a i

@@ -39,7 +39,7 @@ joined-codes mode false l f g = simp (drop-apart mode .0, drop-apart mode .1) (g
     go true = refl
     go false = refl
 
-own-joined : (order : ℕ) (mode : BorderMode) (xa ya za : Axis) (x y z : ℕ) → joined (joined (axisCode order mode xa x) (axisCode order mode ya y)) (axisCode order mode za z) ≡ ownCode order mode xa ya za x y z
+pub own-joined : (order : ℕ) (mode : BorderMode) (xa ya za : Axis) (x y z : ℕ) → joined (joined (axisCode order mode xa x) (axisCode order mode ya y)) (axisCode order mode za z) ≡ ownCode order mode xa ya za x y z
 unfolding ownCode
 own-joined order mode xa ya za x y z =
     ap (λ (c : ℕ). joined c (axisCode order mode za z)) (joined-codes mode (keptAt mode xa x) (keptAt mode ya y) (foldedAt order mode xa x) (foldedAt order mode ya y))

@@ -6,7 +6,7 @@ ghost use lib.ListN.{length, getD};
 ghost use Rattle.limits.specs.Limits.{longest};
 ghost use Rattle.lists.specs.Tabulate.{tabulate};
 ghost use Rattle.lists.specs.Bookkeeping.{Filled};
-ghost use Rattle.coverage.specs.Coverage.{dropCode, keptAt, ownCodes};
+ghost use Rattle.coverage.specs.Coverage.{dropCode, dropValue, keptAt, ownCode, ownCodes};
 ghost use Rattle.coverage.specs.Bookkeeping.{axisCode, joined, codeInPlane, codeByAxes};
 use axis::coordinate::Axis;
 use axis::coordinate::settled_at;
@@ -25,6 +25,20 @@ pub fn drop_code(mode: BorderMode) -> u8
         BorderMode::Reflect => 2,
         BorderMode::Wrap => 2,
         BorderMode::Replicate => 2,
+    }
+}
+
+// And its value.
+pub fn drop_value(mode: BorderMode) -> f64
+    ensures { λ r. ⌜ r ≡ dropValue mode ⌝ }
+{
+    match mode {
+        BorderMode::Constant(fill) => fill,
+        BorderMode::Mirror => 0.0,
+        BorderMode::Nearest => 0.0,
+        BorderMode::Reflect => 0.0,
+        BorderMode::Wrap => 0.0,
+        BorderMode::Replicate => 0.0,
     }
 }
 
@@ -91,6 +105,24 @@ fn join(c: u8, d: u8) -> u8
         return c;
     }
     if c == 3 { d } else { c }
+}
+
+// The code of one voxel.
+pub fn own_code(
+    xa: Axis,
+    ya: Axis,
+    za: Axis,
+    order: usize,
+    mode: BorderMode,
+    x: usize,
+    y: usize,
+    z: usize,
+) -> u8
+    requires { ⌜ order ≤ 5 ⌝ }
+    ensures { λ r. ⌜ r ≡ ownCode order mode xa ya za x y z ⌝ }
+{
+    let others = join(axis_code(xa, x, order, mode), axis_code(ya, y, order, mode));
+    join(others, axis_code(za, z, order, mode))
 }
 
 // A row of which the other two axes say `others`.

@@ -37,7 +37,13 @@ splice f d xs ys zs a h p q m lt =
     let e2 : a + (m - a) ≡ m = omega arith in
     ap (λ (j : ℕ). getD (take a xs ++ (ys ++ zs)) j d) e ∙ getD-append-add (take a xs) (ys ++ zs) (m - a) d ∙ List·getD-append ys zs d (m - a) (omega arith) ∙ q (m - a) (omega arith) ∙ ap f e2)
 
--- three stores, into three places: what was in them is gone
+-- one store, into one place: what was in it is gone
+pub one-stored : {A : Type 0} (l : List A) {x : A} → length l ≡ 1 → set l 0 x ≡ x ∷ []
+one-stored [] e = absurd (omega arith)
+one-stored (a ∷ []) e = refl
+one-stored (a ∷ b ∷ l) e = absurd (omega arith)
+
+-- three stores, into three places
 pub three-stored : {A : Type 0} (l : List A) {x y z : A} → length l ≡ 3 → set (set (set l 0 x) 1 y) 2 z ≡ x ∷ y ∷ z ∷ []
 three-stored [] e = absurd (omega arith)
 three-stored (a ∷ []) e = absurd (omega arith)

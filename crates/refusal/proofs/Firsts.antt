@@ -35,10 +35,21 @@ pub all-clear : (l : List Check) → first l ≡ Passed → Clear l
 all-clear [] e = tt
 all-clear (c ∷ cs) e = let h = passed (c .says) (c .applies) (first cs) e in (h .0, all-clear cs (h .1))
 
+pub clear-passes : (l : List Check) → Clear l → first l ≡ Passed
+clear-passes [] h = refl
+clear-passes (c ∷ cs) h = ap (λ (t : Bool). cond t (Refused (c .says)) (first cs)) (h .0) ∙ clear-passes cs (h .1)
+
 -- ---- a list behind another is asked where the first lets pass
 pub passed-on : (cs ds : List Check) → first cs ≡ Passed → first (cs ++ ds) ≡ first ds
 passed-on [] ds e = refl
 passed-on (c ∷ cs) ds e = let h = passed (c .says) (c .applies) (first cs) e in ap (λ (t : Bool). cond t (Refused (c .says)) (first (cs ++ ds))) (h .0) ∙ passed-on cs ds (h .1)
+
+pub passed-both : (cs ds : List Check) → first (cs ++ ds) ≡ Passed → (first cs ≡ Passed) × (first ds ≡ Passed)
+passed-both [] ds e = (refl, e)
+passed-both (c ∷ cs) ds e =
+    let h = passed (c .says) (c .applies) (first (cs ++ ds)) e in
+    let rest = passed-both cs ds (h .1) in
+    (ap (λ (t : Bool). cond t (Refused (c .says)) (first cs)) (h .0) ∙ rest .0, rest .1)
 
 pub refused-before : (cs ds : List Check) (why : Refusal) → first cs ≡ Refused why → first (cs ++ ds) ≡ Refused why
 refused-before [] ds why e = absurd (subst (λ (v : Verdict). IsRefused v) (sym e) tt)

@@ -1,17 +1,24 @@
 -- "Checked in this order; the first that applies is given, and a refusal is given only then."
 use Prim.Native.Nat.{ℕ}
-use mathlib.Core.Bool.{Bool, _||_, cond}
-use mathlib.Core.List.{List, [], _∷_}
+use mathlib.Core.Bool.{Bool, _&&_, _||_, cond}
+use mathlib.Core.List.{List, [], _∷_, _++_}
+use lib.Dec.{eqb}
 use lib.ListN.{length}
 use lib.Ieee.{Float}
 use Rattle.border.specs.declared.BorderMode.{BorderMode}
+use Rattle.axis.specs.declared.coordinate.Axis.{Axis}
+use Rattle.axis.specs.Coordinate.{padOf, shiftAxis, zoomAxis}
+use Rattle.axis.specs.Length.{outputLength}
+use Rattle.axis.specs.Point.{someBeside}
 use Rattle.prefilter.specs.Volume.{countOf}
 use Rattle.request.specs.declared.Axes.{Axes}
 use Rattle.request.specs.declared.Request.{Request}
 use Rattle.request.specs.Sizes.{needed, zoomDims, shiftAxes, zoomAxes}
-use Rattle.request.specs.Conditions.{badOrder, badFilterOrder, badAxisNumber, badLengths, badShift, badZoom, badFactors, tooLarge, wrong, tooShort, wildFill, someWild, besideAny}
+use Rattle.request.specs.Conditions.{badOrder, badFilterOrder, badAxisNumber, badLength, badLengths, badShift, badZoom, badFactors, tooLarge, wrong, tooShort, wildFill, someWild, besideAny, badIndex, badIndices}
+use Rattle.refusal.specs.declared.Asked.{Asked}
+use Rattle.refusal.specs.declared.Asked.the-variants.{Volume, Voxel}
 use Rattle.refusal.specs.declared.Refusal.{Refusal}
-use Rattle.refusal.specs.declared.Refusal.the-variants.{NotNpy, Order, AxisNumber, Length, Factor, OutputLength, Count, Buffer, Value, Beside}
+use Rattle.refusal.specs.declared.Refusal.the-variants.{NotNpy, Order, AxisNumber, Length, Factor, OutputLength, Count, Buffer, Value, Beside, Index}
 use Rattle.refusal.specs.declared.Verdict.{Verdict}
 use Rattle.refusal.specs.declared.Verdict.the-variants.{Passed, Refused}
 
@@ -27,6 +34,7 @@ numberOf Count = 6
 numberOf Buffer = 7
 numberOf Value = 8
 numberOf Beside = 9
+numberOf Index = 11
 
 -- ---- the first of a list that applies
 pub record Check : Type 0 where
@@ -49,29 +57,67 @@ numberBy (Refused why) = numberOf why
 abbrev pub valueCheck : BorderMode → List Float → Check
 valueCheck mode input = when Value (wildFill mode || someWild input)
 
+-- the places of output and of coverage: as many as the output has voxels, or one (#105)
+abbrev pub placesOf : Asked → ℕ → ℕ
+placesOf Volume count = count
+placesOf Voxel count = 1
+
 -- shift and zoom alike, from 6 on: with the output lengths and the axes
-abbrev pub resampleChecks : Request → List Float → ℕ → ℕ → ℕ → List ℕ → Axes → List Check
-resampleChecks r input output coverage work out a =
+abbrev pub resampleChecks : Asked → Request → List Float → ℕ → ℕ → ℕ → List ℕ → Axes → List Check
+resampleChecks asked r input output coverage work out a =
     when Count (tooLarge (countOf (r .dims)) || tooLarge (countOf out) || tooLarge (needed r))
-    ∷ when Buffer (wrong (length input) (countOf (r .dims)) || wrong output (countOf out) || wrong coverage (countOf out) || tooShort work (needed r))
+    ∷ when Buffer (wrong (length input) (countOf (r .dims)) || wrong output (placesOf asked (countOf out)) || wrong coverage (placesOf asked (countOf out)) || tooShort work (needed r))
     ∷ valueCheck (r .mode) input
     ∷ when Beside (besideAny r a)
     ∷ []
 
-abbrev pub shiftChecks : Request → List Float → ℕ → ℕ → ℕ → List Check
-shiftChecks r input output coverage work =
+abbrev pub shiftChecks : Asked → Request → List Float → ℕ → ℕ → ℕ → List Check
+shiftChecks asked r input output coverage work =
     when Order (badOrder (r .order))
     ∷ when Length (badLengths (r .dims))
     ∷ when Factor (badFactors badShift (r .factors))
-    ∷ resampleChecks r input output coverage work (r .dims) (shiftAxes r)
+    ∷ resampleChecks asked r input output coverage work (r .dims) (shiftAxes r)
 
-abbrev pub zoomChecks : Request → List Float → ℕ → ℕ → ℕ → List Check
-zoomChecks r input output coverage work =
+abbrev pub zoomChecks : Asked → Request → List Float → ℕ → ℕ → ℕ → List Check
+zoomChecks asked r input output coverage work =
     when Order (badOrder (r .order))
     ∷ when Length (badLengths (r .dims))
     ∷ when Factor (badFactors badZoom (r .factors))
     ∷ when OutputLength (badLengths (zoomDims r))
-    ∷ resampleChecks r input output coverage work (zoomDims r) (zoomAxes r)
+    ∷ resampleChecks asked r input output coverage work (zoomDims r) (zoomAxes r)
+
+-- #105: "Refusals: 11, output index outside the output, after 01's nine." `value` and `code` are lengths too, `at` has an index for each axis.
+abbrev pub indexChecks : List ℕ → List ℕ → List Check
+indexChecks out at = when Index (badIndices out at) ∷ []
+
+abbrev pub shiftVoxelChecks : Request → List Float → ℕ → ℕ → ℕ → List ℕ → List Check
+shiftVoxelChecks r input value code work at = shiftChecks Voxel r input value code work ++ indexChecks (r .dims) at
+
+abbrev pub zoomVoxelChecks : Request → List Float → ℕ → ℕ → ℕ → List ℕ → List Check
+zoomVoxelChecks r input value code work at = zoomChecks Voxel r input value code work ++ indexChecks (zoomDims r) at
+
+-- #105, the record of one axis: `coordinate`, `at` and `weight` are lengths too. Shift and zoom alike, from 7 on: with the axis and one output index
+abbrev pub pointChecks : ℕ → BorderMode → Axis → ℕ → ℕ → ℕ → ℕ → List Check
+pointChecks order mode a i coordinate at weight =
+    when Buffer (wrong coordinate 1 || wrong at 6 || wrong weight 6)
+    ∷ when Beside (eqb order 0 && someBeside mode a)
+    ∷ when Index (badIndex (a .out) i)
+    ∷ []
+
+abbrev pub shiftPointChecks : ℕ → Float → ℕ → Bool → BorderMode → ℕ → ℕ → ℕ → ℕ → List Check
+shiftPointChecks n shift order prefilter mode i coordinate at weight =
+    when Order (badOrder order)
+    ∷ when Length (badLength n)
+    ∷ when Factor (badShift shift)
+    ∷ pointChecks order mode (shiftAxis n shift (padOf mode prefilter order)) i coordinate at weight
+
+abbrev pub zoomPointChecks : ℕ → Float → ℕ → Bool → BorderMode → ℕ → ℕ → ℕ → ℕ → List Check
+zoomPointChecks n factor order prefilter mode i coordinate at weight =
+    when Order (badOrder order)
+    ∷ when Length (badLength n)
+    ∷ when Factor (badZoom factor)
+    ∷ when OutputLength (badLength (outputLength n factor))
+    ∷ pointChecks order mode (zoomAxis n (outputLength n factor) (padOf mode prefilter order)) i coordinate at weight
 
 -- "The filters check 1, 2, 3, 6, 7, 8; a Constant fill is checked there too though unused": from 3 on alike
 abbrev pub filterChecks : Request → List Float → ℕ → List Check

@@ -2,9 +2,11 @@
 ghost use mathlib.Core.Path.{_≡_};
 ghost use Rattle.refusal.specs.Refusals.{numberOf, numberBy};
 
+pub mod points;
 pub mod verdicts;
 
-// Document 01's nine in its order, 1 to 9, after those of document 02 that come before them: 10.
+// Document 01's nine in its order, 1 to 9, between those of document 02 that come before them, 10, and
+// after them, 11.
 pub enum Refusal {
     NotNpy,
     Order,
@@ -16,6 +18,13 @@ pub enum Refusal {
     Buffer,
     Value,
     Beside,
+    Index,
+}
+
+// What a caller of shift or zoom wants: every voxel of the output, or one.
+pub enum Asked {
+    Volume,
+    Voxel,
 }
 
 pub enum Verdict {
@@ -37,6 +46,7 @@ pub fn number_of(why: Refusal) -> u32
         Refusal::Buffer => 7,
         Refusal::Value => 8,
         Refusal::Beside => 9,
+        Refusal::Index => 11,
     }
 }
 

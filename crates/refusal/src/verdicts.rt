@@ -4,7 +4,8 @@ ghost use mathlib.Core.Bool.{_||_};
 ghost use lib.Dec.{ltb};
 ghost use Rattle.request.specs.Bookkeeping.{Lengths};
 ghost use Rattle.request.specs.Conditions.{tooLarge, wrong, wildFill, someWild, besideAny};
-ghost use Rattle.refusal.specs.Refusals.{first, resampleChecks, shiftChecks, zoomChecks, filterChecks, splineFilterChecks, splineFilter1dChecks};
+ghost use Rattle.refusal.specs.Refusals.{first, placesOf, resampleChecks, shiftChecks, zoomChecks, indexChecks, shiftVoxelChecks, zoomVoxelChecks, filterChecks, splineFilterChecks, splineFilter1dChecks};
+use crate::Asked;
 use crate::Refusal;
 use crate::Verdict;
 use axis::point::some_beside;
@@ -12,6 +13,7 @@ use border::BorderMode;
 use limits::MOST_PLACES;
 use request::Axes;
 use request::Request;
+use request::conditions::bad_indices;
 use request::conditions::bad_lengths;
 use request::conditions::bad_shifts;
 use request::conditions::bad_zooms;
@@ -90,8 +92,19 @@ fn beside_any(r: Request, a: Axes) -> bool
     some_beside(a.z, mode)
 }
 
+// How many places are lent for values, and as many for codes; `count` is the output's.
+fn places_of(asked: Asked, count: usize) -> usize
+    ensures { λ n. ⌜ n ≡ placesOf asked count ⌝ }
+{
+    match asked {
+        Asked::Volume => count,
+        Asked::Voxel => 1,
+    }
+}
+
 // Refusals 6 to 9 of shift and zoom.
 fn resample_verdict(
+    asked: Asked,
     r: Request,
     input: &[f64],
     output: usize,
@@ -102,7 +115,7 @@ fn resample_verdict(
 ) -> Verdict
     requires { ⌜ Lengths (r .dims) ⌝ }
     requires { ⌜ Lengths out ⌝ }
-    ensures { λ v. ⌜ v ≡ first (resampleChecks r (now (input .entry)) output coverage work out a) ⌝ }
+    ensures { λ v. ⌜ v ≡ first (resampleChecks asked r (now (input .entry)) output coverage work out a) ⌝ }
 {
     let dims = r.dims;
     let mode = r.mode;
@@ -112,7 +125,8 @@ fn resample_verdict(
     if some_too_large(count, wanted, need) {
         return Verdict::Refused(Refusal::Count);
     }
-    if some_wrong(input.len(), count, output, coverage, wanted, work, need) {
+    let places = places_of(asked, wanted);
+    if some_wrong(input.len(), count, output, coverage, places, work, need) {
         return Verdict::Refused(Refusal::Buffer);
     }
     if wild_any(mode, input) {
@@ -125,13 +139,14 @@ fn resample_verdict(
 }
 
 pub fn shift_verdict(
+    asked: Asked,
     r: Request,
     input: &[f64],
     output: usize,
     coverage: usize,
     work: usize,
 ) -> Verdict
-    ensures { λ v. ⌜ v ≡ first (shiftChecks r (now (input .entry)) output coverage work) ⌝ }
+    ensures { λ v. ⌜ v ≡ first (shiftChecks asked r (now (input .entry)) output coverage work) ⌝ }
 {
     let dims = r.dims;
     let factors = r.factors;
@@ -144,17 +159,18 @@ pub fn shift_verdict(
     if bad_shifts(factors) {
         return Verdict::Refused(Refusal::Factor);
     }
-    resample_verdict(r, input, output, coverage, work, dims, shift_axes(r))
+    resample_verdict(asked, r, input, output, coverage, work, dims, shift_axes(r))
 }
 
 pub fn zoom_verdict(
+    asked: Asked,
     r: Request,
     input: &[f64],
     output: usize,
     coverage: usize,
     work: usize,
 ) -> Verdict
-    ensures { λ v. ⌜ v ≡ first (zoomChecks r (now (input .entry)) output coverage work) ⌝ }
+    ensures { λ v. ⌜ v ≡ first (zoomChecks asked r (now (input .entry)) output coverage work) ⌝ }
 {
     let dims = r.dims;
     let factors = r.factors;
@@ -171,7 +187,59 @@ pub fn zoom_verdict(
     if bad_lengths(out) {
         return Verdict::Refused(Refusal::OutputLength);
     }
-    resample_verdict(r, input, output, coverage, work, out, zoom_axes(r, out))
+    resample_verdict(
+        asked,
+        r,
+        input,
+        output,
+        coverage,
+        work,
+        out,
+        zoom_axes(r, out),
+    )
+}
+
+// Refusal 11 of one voxel.
+fn index_verdict(out: [usize; 3], at: [usize; 3]) -> Verdict
+    ensures { λ v. ⌜ v ≡ first (indexChecks out at) ⌝ }
+{
+    if bad_indices(out, at) {
+        return Verdict::Refused(Refusal::Index);
+    }
+    Verdict::Passed
+}
+
+pub fn shift_voxel_verdict(
+    r: Request,
+    input: &[f64],
+    value: usize,
+    code: usize,
+    work: usize,
+    at: [usize; 3],
+) -> Verdict
+    ensures { λ v. ⌜ v ≡ first (shiftVoxelChecks r (now (input .entry)) value code work at) ⌝ }
+{
+    let dims = r.dims;
+    match shift_verdict(Asked::Voxel, r, input, value, code, work) {
+        Verdict::Passed => index_verdict(dims, at),
+        Verdict::Refused(why) => Verdict::Refused(why),
+    }
+}
+
+pub fn zoom_voxel_verdict(
+    r: Request,
+    input: &[f64],
+    value: usize,
+    code: usize,
+    work: usize,
+    at: [usize; 3],
+) -> Verdict
+    ensures { λ v. ⌜ v ≡ first (zoomVoxelChecks r (now (input .entry)) value code work at) ⌝ }
+{
+    match zoom_verdict(Asked::Voxel, r, input, value, code, work) {
+        Verdict::Passed => index_verdict(zoom_dims(r), at),
+        Verdict::Refused(why) => Verdict::Refused(why),
+    }
 }
 
 // Refusals 3 and 6 to 8 of the two filters.

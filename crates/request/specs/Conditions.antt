@@ -1,8 +1,8 @@
--- "Nine ways to say no": what each refusal is given for, in document 01's words.
+-- "Nine ways to say no": what each refusal is given for, in document 01's words; and in document 02's.
 use Prim.Native.Nat.{ℕ, _^_}
 use mathlib.Core.Bool.{Bool, false, not, _&&_, _||_}
 use mathlib.Core.List.{List}
-use lib.Dec.{ltb, eqb}
+use lib.Dec.{leb, ltb, eqb}
 use lib.ListN.{length, getD}
 use lib.Ieee.{Float, nan, neg, lt, le}
 use Rattle.exact.specs.Rounded.{num}
@@ -76,3 +76,11 @@ someWild input = someBelow (λ i. wild (getD input i nan)) (length input)
 unfoldable pub besideAny : Request → Axes → Bool
 unfolding someBeside
 besideAny r a = eqb (r .order) 0 && (someBeside (r .mode) (a .x) || someBeside (r .mode) (a .y) || someBeside (r .mode) (a .z))
+
+-- #105: "output index outside the output"
+abbrev pub badIndex : ℕ → ℕ → Bool
+badIndex out i = leb out i
+
+unfoldable pub badIndices : List ℕ → List ℕ → Bool
+unfolding someBelow
+badIndices out at = someBelow (λ i. badIndex (getD out i 0) (getD at i 0)) 3

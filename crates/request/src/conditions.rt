@@ -1,6 +1,6 @@
 // The conditions of the refusals.
 ghost use mathlib.Core.Path.{_≡_};
-ghost use Rattle.request.specs.Conditions.{badLength, badLengths, badShift, badZoom, badFactors, wild, wildFill, someWild};
+ghost use Rattle.request.specs.Conditions.{badLength, badLengths, badShift, badZoom, badFactors, wild, wildFill, someWild, badIndex, badIndices};
 use border::BorderMode;
 use limits::LONGEST;
 
@@ -25,7 +25,7 @@ pub fn bad_lengths(d: [usize; 3]) -> bool
     bad_length(d[2])
 }
 
-fn bad_shift(s: f64) -> bool
+pub fn bad_shift(s: f64) -> bool
     ensures { λ r. ⌜ r ≡ badShift s ⌝ }
 {
     if s > -1048576.0 {
@@ -106,4 +106,23 @@ pub fn some_wild(input: &[f64]) -> bool
         i += 1;
     }
     false
+}
+
+pub fn bad_index(out: usize, i: usize) -> bool
+    ensures { λ r. ⌜ r ≡ badIndex out i ⌝ }
+{
+    out <= i
+}
+
+// An index on each axis against the output lengths.
+pub fn bad_indices(out: [usize; 3], at: [usize; 3]) -> bool
+    ensures { λ r. ⌜ r ≡ badIndices out at ⌝ }
+{
+    if bad_index(out[0], at[0]) {
+        return true;
+    }
+    if bad_index(out[1], at[1]) {
+        return true;
+    }
+    bad_index(out[2], at[2])
 }

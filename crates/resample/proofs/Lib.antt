@@ -1,4 +1,4 @@
 -- The laws of the four entries.
 pub mod Preparing
-pub mod Admitting
+pub mod Answering
 pub mod Filtering

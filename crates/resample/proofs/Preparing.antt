@@ -24,22 +24,9 @@ sized d count h c = record { least = λ axis l. h axis l .0; most = λ axis l. o
 
 module _ (r : Request) where
   -- ---- without edge copies
-  pub plain-count : padding r ≡ 0 → countOf (sourceDims r) ≡ countOf (r .dims)
-  plain-count e =
-      let q : (i : ℕ) → getD (r .dims) i 0 + 2 * padding r ≡ getD (r .dims) i 0 = λ i. omega (arith, e) in
-      λ t. q 0 t * (q 1 t * q 2 t)
-
   pub source-plain : (input : List Float) → padding r ≡ 0 → input ≡ sourceOf r input
   unfolding sourceOf
   source-plain input e = simp (eq-eqb (padding r) 0 e)
-
-  pub plain-padding : filters r ≡ false → padding r ≡ 0
-  plain-padding f = go (r .prefilter) (ltb 1 (r .order)) (pads (r .mode)) f
-    where
-      go : (a b n : Bool) → (a && b) ≡ false → _≡_ {A = ℕ} (cond (a && b && n) 12 0) 0
-      go true true n e = absurd (true≢false e)
-      go true false n e = refl
-      go false b n e = refl
 
   -- ---- with them
   twelve : (padding r ≡ 0 → ⊥) → padding r ≡ 12
@@ -90,9 +77,6 @@ module _ (r : Request) where
   pub unfiltered : (input : List Float) → filters r ≡ false → input ≡ coefficients r input
   unfolding coefficients
   unfiltered input f = simp f
-
-  pub needed-all : filters r ≡ true → needed r ≡ countOf (sourceDims r)
-  needed-all f = simp f
 
   -- ---- what work then holds
   pub work-begins : (input work : List Float) {need : ℕ} {ys : List Float} → filters r ≡ true → need ≡ needed r → ys ≡ coefficients r input → ys ++ drop need work ≡ workAfter r input work

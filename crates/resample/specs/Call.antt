@@ -10,6 +10,7 @@ use Rattle.prefilter.specs.Volume.{filterAxis, filterVolume}
 use Rattle.coverage.specs.declared.counts.Counts.{Counts}
 use Rattle.resample.specs.declared.Answer.{Answer}
 use Rattle.resample.specs.declared.Answer.the-variants as answer
+use Rattle.refusal.specs.declared.Asked.the-variants.{Volume}
 use Rattle.refusal.specs.declared.Verdict.{Verdict}
 use Rattle.refusal.specs.declared.Verdict.the-variants as verdict
 use Rattle.request.specs.declared.Axes.{Axes}
@@ -58,10 +59,10 @@ callBy verdict.Passed r a input output coverage work = success r a input work
 callBy (verdict.Refused why) r a input output coverage work = callOf (answer.Refused why) output coverage work
 
 unfoldable pub shiftCall : Request → List Float → List Float → List ℕ → List Float → Call
-shiftCall r input output coverage work = callBy (first (shiftChecks r input (length output) (length coverage) (length work))) r (shiftAxes r) input output coverage work
+shiftCall r input output coverage work = callBy (first (shiftChecks Volume r input (length output) (length coverage) (length work))) r (shiftAxes r) input output coverage work
 
 unfoldable pub zoomCall : Request → List Float → List Float → List ℕ → List Float → Call
-zoomCall r input output coverage work = callBy (first (zoomChecks r input (length output) (length coverage) (length work))) r (zoomAxes r) input output coverage work
+zoomCall r input output coverage work = callBy (first (zoomChecks Volume r input (length output) (length coverage) (length work))) r (zoomAxes r) input output coverage work
 
 -- document 01's number (0 for success) and counts of an answer
 abbrev pub numberIn : Answer → ℕ

@@ -6,6 +6,7 @@ use coverage::counts::Counts;
 use edge::copy;
 use prefilter::filter_axis;
 use prefilter::filter_volume;
+use refusal::Asked;
 use refusal::Refusal;
 use refusal::Verdict;
 use refusal::number_of;
@@ -55,7 +56,14 @@ pub fn shift(
 ) -> Answer
     ensures { λ answer. ⌜ callOf answer (now (output .exit)) (now (coverage .exit)) (now (work .exit)) ≡ shiftCall r (now (input .entry)) (now (output .entry)) (now (coverage .entry)) (now (work .entry)) ⌝ }
 {
-    match shift_verdict(r, input, output.len(), coverage.len(), work.len()) {
+    match shift_verdict(
+        Asked::Volume,
+        r,
+        input,
+        output.len(),
+        coverage.len(),
+        work.len(),
+    ) {
         Verdict::Passed => { Answer::Done(write(r, shift_axes(r), input, output, coverage, work)) }
         Verdict::Refused(why) => Answer::Refused(why),
     }
@@ -70,7 +78,14 @@ pub fn zoom(
 ) -> Answer
     ensures { λ answer. ⌜ callOf answer (now (output .exit)) (now (coverage .exit)) (now (work .exit)) ≡ zoomCall r (now (input .entry)) (now (output .entry)) (now (coverage .entry)) (now (work .entry)) ⌝ }
 {
-    match zoom_verdict(r, input, output.len(), coverage.len(), work.len()) {
+    match zoom_verdict(
+        Asked::Volume,
+        r,
+        input,
+        output.len(),
+        coverage.len(),
+        work.len(),
+    ) {
         Verdict::Passed => {
             let a = zoom_axes(r, zoom_dims(r));
             Answer::Done(write(r, a, input, output, coverage, work))

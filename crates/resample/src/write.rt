@@ -7,9 +7,9 @@ ghost use Rattle.limits.specs.Limits.{longest};
 ghost use Rattle.prefilter.specs.Volume.{countOf};
 ghost use Rattle.request.specs.Sizes.{filters, sourceDims, needed};
 ghost use Rattle.request.specs.Bookkeeping.{Lengths};
+ghost use Rattle.refusal.specs.Bookkeeping.{Admitted, Passes};
 ghost use Rattle.coverage.specs.Coverage.{countsOf};
 ghost use Rattle.resample.specs.Call.{sourceOf, coefficients, callOf, valuesOf, codesOf, workAfter, success};
-ghost use Rattle.resample.specs.Bookkeeping.{Admitted, Passes};
 ghost use Rattle.resample.specs.declared.Answer.the-variants.{Done};
 use axis::coordinate::pad_of;
 use coverage::counts::Counts;
@@ -56,7 +56,8 @@ fn prepare(work: &mut [f64], input: &[f64], r: Request)
 // The values from the coefficients, which then stand in work.
 fn write_filtered(r: Request, a: Axes, input: &[f64], output: &mut [f64], work: &mut [f64])
     requires { ⌜ filters r ≡ true ⌝ }
-    requires { ⌜ Admitted r a (length (now input)) (length (now output)) ⌝ }
+    requires { ⌜ Admitted r a (length (now input)) ⌝ }
+    requires { ⌜ length (now output) ≡ a .x .out * (a .y .out * a .z .out) ⌝ }
     requires { ⌜ length (now work) ≡ countOf (sourceDims r) ⌝ }
     ensures { λ _. ⌜ (now (output .exit) ≡ valuesOf r a (now (input .entry))) × (now (work .exit) ≡ coefficients r (now (input .entry))) ⌝ }
 {
@@ -71,7 +72,8 @@ fn write_filtered(r: Request, a: Axes, input: &[f64], output: &mut [f64], work: 
 // The values from the input itself.
 fn write_plain(r: Request, a: Axes, input: &[f64], output: &mut [f64])
     requires { ⌜ filters r ≡ false ⌝ }
-    requires { ⌜ Admitted r a (length (now input)) (length (now output)) ⌝ }
+    requires { ⌜ Admitted r a (length (now input)) ⌝ }
+    requires { ⌜ length (now output) ≡ a .x .out * (a .y .out * a .z .out) ⌝ }
     ensures { λ _. ⌜ now (output .exit) ≡ valuesOf r a (now (input .entry)) ⌝ }
 {
     let mode = r.mode;
@@ -82,7 +84,8 @@ fn write_plain(r: Request, a: Axes, input: &[f64], output: &mut [f64])
 }
 
 fn write_values(r: Request, a: Axes, input: &[f64], output: &mut [f64], work: &mut [f64])
-    requires { ⌜ Admitted r a (length (now input)) (length (now output)) ⌝ }
+    requires { ⌜ Admitted r a (length (now input)) ⌝ }
+    requires { ⌜ length (now output) ≡ a .x .out * (a .y .out * a .z .out) ⌝ }
     requires { ⌜ needed r ≤ length (now work) ⌝ }
     ensures { λ _. ⌜ (now (output .exit) ≡ valuesOf r a (now (input .entry))) × (now (work .exit) ≡ workAfter r (now (input .entry)) (now (work .entry))) ⌝ }
 {
@@ -118,7 +121,7 @@ pub(crate) fn write(
     coverage: &mut [u8],
     work: &mut [f64],
 ) -> Counts
-    requires { ⌜ Passes r a (length (now input)) (length (now output)) (length (now coverage)) (length (now work)) ⌝ }
+    requires { ⌜ Passes r a (a .x .out * (a .y .out * a .z .out)) (length (now input)) (length (now output)) (length (now coverage)) (length (now work)) ⌝ }
     ensures { λ counts. ⌜ callOf (Done counts) (now (output .exit)) (now (coverage .exit)) (now (work .exit)) ≡ success r a (now (input .entry)) (now (work .entry)) ⌝ }
 {
     write_values(r, a, input, output, work);

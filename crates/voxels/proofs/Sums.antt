@@ -1,4 +1,4 @@
--- The sums of four voxels, one turn at a time.
+-- The sums, one turn at a time; and of four voxels at once.
 use Prim.Native.Nat.{ℕ, zero, suc, _+_, _*_, _-_, _≤_, _<_}
 use native.Mathlib.Omega.{arith}
 use native.Mathlib.Numerals.{add-one}
@@ -41,11 +41,15 @@ within j p z count h l = omega (arith, next j p)
 
 -- ---- one turn more
 module _ (xs : List Float) (p : ℕ) (x : Tap) (place : ℕ) (v s : Float) (k : ℕ) {t r : Float} where
-  pub turn-x : place < p → t ≡ sumX xs p x place v s k → r ≡ term t (getD (take ((x .at k + 1) * p - x .at k * p) (drop (x .at k * p) xs)) place nan) (x .weight k) v → r ≡ sumX xs p x place v s (k + 1)
+  pub turn-x : t ≡ sumX xs p x place v s k → r ≡ term t (getD xs (x .at k * p + place) nan) (x .weight k) v → r ≡ sumX xs p x place v s (k + 1)
   unfolding sumX
-  turn-x h e q =
+  turn-x e q = q ∙ (λ i. term (e i) (getD xs (x .at k * p + place) nan) (x .weight k) v) ∙ rw add-one
+
+  -- where the plane is lent as a stretch
+  pub turn-x-lent : place < p → t ≡ sumX xs p x place v s k → r ≡ term t (getD (take ((x .at k + 1) * p - x .at k * p) (drop (x .at k * p) xs)) place nan) (x .weight k) v → r ≡ sumX xs p x place v s (k + 1)
+  turn-x-lent h e q =
       let f = in-part nan xs (x .at k * p) ((x .at k + 1) * p - x .at k * p) place (omega (arith, next (x .at k) p)) in
-      q ∙ (λ i. term (e i) (f i) (x .weight k) v) ∙ rw add-one
+      turn-x e (q ∙ (λ i. term t (f i) (x .weight k) v))
 
 module _ (xs : List Float) (plane row n : ℕ) (x y : Tap) where
   pub turn-y :
@@ -59,13 +63,23 @@ module _ (xs : List Float) (plane row n : ℕ) (x y : Tap) where
   turn-y z w s k e f g q = q ∙ (λ i. sumX xs plane x (f i) (g i) (e i) n) ∙ rw add-one
 
   pub turn-z :
+      (z : Tap) (k : ℕ) {t r w : Float} {place : ℕ} →
+      t ≡ sumZ xs plane row n x y z k →
+      place ≡ z .at k →
+      w ≡ z .weight k →
+      r ≡ sumY xs plane row n x y place w t n →
+      r ≡ sumZ xs plane row n x y z (k + 1)
+  unfolding sumZ
+  turn-z z k e f g q = q ∙ (λ i. sumY xs plane row n x y (f i) (g i) (e i) n) ∙ rw add-one
+
+  -- where z stands in a table
+  pub turn-z-tabled :
       (at : List ℕ) (weight : List Float) (o l k : ℕ) {t r w : Float} {place : ℕ} →
       t ≡ sumZ xs plane row n x y (column at weight (o + l)) k →
       place ≡ getD at (k * 4096 + o + l) 0 →
       w ≡ getD weight (k * 4096 + o + l) nan →
       r ≡ sumY xs plane row n x y place w t n →
       r ≡ sumZ xs plane row n x y (column at weight (o + l)) (k + 1)
-  unfolding sumZ
-  turn-z at weight o l k e f g q =
+  turn-z-tabled at weight o l k e f g q =
       let m = add-assoc (k * 4096) o l in
-      q ∙ (λ i. sumY xs plane row n x y ((rw m at f) i) ((rw m at g) i) (e i) n) ∙ rw add-one
+      turn-z (column at weight (o + l)) k e (rw m at f) (rw m at g) q

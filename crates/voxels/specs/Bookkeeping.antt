@@ -9,7 +9,6 @@ use Rattle.limits.specs.Limits.{longest}
 use Rattle.border.specs.declared.BorderMode.{BorderMode}
 use Rattle.axis.specs.declared.coordinate.Axis.{Axis}
 use Rattle.axis.specs.Point.{pointAt}
-use Rattle.axis.specs.Bookkeeping.{Reached}
 use Rattle.voxels.specs.declared.sum.Four.{Four}
 use Rattle.voxels.specs.declared.sum.Places.{Places}
 use Rattle.coverage.specs.Coverage.{keptAt, dropValue}
@@ -65,11 +64,6 @@ pub record Column {A : Type 0} (d : A) (i : ℕ) (c l₀ l : List A) (n : ℕ) :
   pub same : length l ≡ length l₀
   pub set : (k : ℕ) → k < n → getD l (k * longest + i) d ≡ getD c k d
   pub rest : (m : ℕ) → ((k : ℕ) → k < n → m ≡ k * longest + i → ⊥) → getD l m d ≡ getD l₀ m d
-
--- an axis all of whose output indices a request can have
-pub record Reaches (order : ℕ) (a : Axis) : Type 0 where
-  pub short : a .out ≤ longest
-  pub each : (i : ℕ) → i < a .out → Reached order a i
 
 -- ---- the values
 -- a row with the value of place k, if it has that place; and of the four from o on

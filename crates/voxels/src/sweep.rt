@@ -10,8 +10,7 @@ ghost use Rattle.lists.specs.Tabulate.{tabulate};
 ghost use Rattle.voxels.specs.Sum.{sumAt};
 ghost use Rattle.voxels.specs.Bookkeeping.{tableSize, column, Planes, Inside};
 ghost use Rattle.voxels.specs.Sum.{lent};
-ghost use Rattle.voxels.specs.Bookkeeping.{Reaches};
-ghost use Rattle.coverage.specs.Coverage.{dropValue};
+ghost use Rattle.axis.specs.Bookkeeping.{Reaches};
 ghost use Rattle.voxels.specs.Voxel.{computed, values};
 ghost use Rattle.voxels.specs.Bookkeeping.{withVoxel, withFour, rowValue, planeValue, volumeValue};
 use crate::sum::Four;
@@ -23,22 +22,9 @@ use axis::point::is_kept_mark;
 use axis::point::point_at;
 use border::BorderMode;
 use coverage::cover::both;
+use coverage::cover::drop_value;
 use coverage::cover::mark_kept;
 use limits::LONGEST;
-
-// The value of a dropped voxel.
-fn drop_value(mode: BorderMode) -> f64
-    ensures { λ r. ⌜ r ≡ dropValue mode ⌝ }
-{
-    match mode {
-        BorderMode::Constant(fill) => fill,
-        BorderMode::Mirror => 0.0,
-        BorderMode::Nearest => 0.0,
-        BorderMode::Reflect => 0.0,
-        BorderMode::Wrap => 0.0,
-        BorderMode::Replicate => 0.0,
-    }
-}
 
 fn chosen(kept: bool, value: f64, dropped: f64) -> f64
     ensures { λ r. ⌜ r ≡ cond kept value dropped ⌝ }

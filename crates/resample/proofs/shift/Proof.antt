@@ -1,24 +1,28 @@
 -- `resample::shift` meets its contract.
+use Prim.Native.Nat.{_*_}
 use mathlib.Core.Path.{_≡_, _∙_, sym, subst}
 use lib.ListN.{length}
+use Rattle.prefilter.specs.Volume.{countOf}
 use Rattle.request.specs.declared.Axes.{Axes}
+use Rattle.refusal.specs.declared.Asked.the-variants.{Volume}
 use Rattle.refusal.specs.declared.Verdict.the-variants.{Passed}
 use Rattle.request.specs.Sizes.{shiftAxes}
+use Rattle.refusal.specs.Bookkeeping.{Passes}
 use Rattle.refusal.specs.Refusals.{first, shiftChecks}
 use Rattle.resample.specs.Call.{shiftCall}
-use Rattle.resample.specs.Bookkeeping.{Passes}
-use Rattle.resample.proofs.Admitting.{shift-passes, call-passed, call-refused}
+use Rattle.refusal.proofs.Admitting.{shift-passes}
+use Rattle.resample.proofs.Answering.{call-passed, call-refused}
 use borrow.Author.Needs.{needs}
 use Rattle.resample.proofs.shift.Statement.{statement}
 use Rattle.resample.proofs.shift.Tie as tie
 
 -- nothing was refused
 module _ (c : tie.After-enum-told) where
-  cleared : first (shiftChecks (c .before .before .before .before .before .before .before .args .r) (c .before .before .before .before .before .before .before .args .input .now) (length (c .before .before .before .before .before .before .before .args .output .now)) (length (c .before .before .before .before .before .before .before .args .coverage .now)) (length (c .before .before .before .before .before .before .before .args .work .now))) ≡ Passed
+  cleared : first (shiftChecks Volume (c .before .before .before .before .before .before .before .args .r) (c .before .before .before .before .before .before .before .args .input .now) (length (c .before .before .before .before .before .before .before .args .output .now)) (length (c .before .before .before .before .before .before .before .args .coverage .now)) (length (c .before .before .before .before .before .before .before .args .work .now))) ≡ Passed
   cleared = sym (c .before .before .shift-verdict .ensures) ∙ c .enum-told .given .1
 
-  passes : Passes (c .before .before .before .before .before .before .before .args .r) (shiftAxes (c .before .before .before .before .before .before .before .args .r)) (length (c .before .before .before .before .before .before .before .args .input .now)) (length (c .before .before .before .before .before .before .before .args .output .now)) (length (c .before .before .before .before .before .before .before .args .coverage .now)) (length (c .before .before .before .before .before .before .before .args .work .now))
-  passes = shift-passes (c .before .before .before .before .before .before .before .args .r) (c .before .before .before .before .before .before .before .args .input .now) (length (c .before .before .before .before .before .before .before .args .output .now)) (length (c .before .before .before .before .before .before .before .args .coverage .now)) (length (c .before .before .before .before .before .before .before .args .work .now)) cleared
+  passes : Passes (c .before .before .before .before .before .before .before .args .r) (shiftAxes (c .before .before .before .before .before .before .before .args .r)) (countOf (c .before .before .before .before .before .before .before .args .r .dims)) (length (c .before .before .before .before .before .before .before .args .input .now)) (length (c .before .before .before .before .before .before .before .args .output .now)) (length (c .before .before .before .before .before .before .before .args .coverage .now)) (length (c .before .before .before .before .before .before .before .args .work .now))
+  passes = shift-passes Volume (c .before .before .before .before .before .before .before .args .r) (c .before .before .before .before .before .before .before .args .input .now) (length (c .before .before .before .before .before .before .before .args .output .now)) (length (c .before .before .before .before .before .before .before .args .coverage .now)) (length (c .before .before .before .before .before .before .before .args .work .now)) cleared
 
 shift-verdict-requires : tie.Need-shift-verdict-requires
 shift-verdict-requires c κs = search needs
@@ -32,7 +36,7 @@ shift-axes-requires c κs = passes c .admitted .lengths
 write-requires : tie.Need-write-requires
 write-requires c κs =
     let a = c .before .before .before .before .before .before .before .before .before .before .before .args in
-    subst (λ (x : Axes). Passes (a .r) x (length (a .input .now)) (length (a .output .now)) (length (a .coverage .now)) (length (a .work .now))) (sym (c .before .before .before .shift-axes .ensures)) (passes (c .before .before .before .before))
+    subst (λ (x : Axes). Passes (a .r) x (x .x .out * (x .y .out * x .z .out)) (length (a .input .now)) (length (a .output .now)) (length (a .coverage .now)) (length (a .work .now))) (sym (c .before .before .before .shift-axes .ensures)) (passes (c .before .before .before .before))
 
 enum-known-why : tie.Need-enum-known-why
 enum-known-why c = search needs

@@ -1,30 +1,33 @@
 -- `resample::zoom` meets its contract.
-use Prim.Native.Nat.{ℕ}
+use Prim.Native.Nat.{ℕ, _*_}
 use mathlib.Core.Path.{_≡_, _∙_, sym, subst}
 use mathlib.Core.List.{List}
 use lib.ListN.{length}
+use Rattle.prefilter.specs.Volume.{countOf}
 use Rattle.request.specs.declared.Axes.{Axes}
+use Rattle.refusal.specs.declared.Asked.the-variants.{Volume}
 use Rattle.refusal.specs.declared.Verdict.the-variants.{Passed}
 use Rattle.request.specs.Sizes.{zoomDims, zoomAxes}
 use Rattle.request.specs.Bookkeeping.{Lengths, Zoomed}
+use Rattle.refusal.specs.Bookkeeping.{Passes}
 use Rattle.refusal.specs.Refusals.{first, zoomChecks}
 use Rattle.resample.specs.Call.{zoomCall}
-use Rattle.resample.specs.Bookkeeping.{Passes}
-use Rattle.resample.proofs.Admitting.{zoom-passes, zoom-ready, call-passed, call-refused}
+use Rattle.refusal.proofs.Admitting.{zoom-passes, zoom-ready}
+use Rattle.resample.proofs.Answering.{call-passed, call-refused}
 use borrow.Author.Needs.{needs}
 use Rattle.resample.proofs.zoom.Statement.{statement}
 use Rattle.resample.proofs.zoom.Tie as tie
 
 -- nothing was refused
 module _ (c : tie.After-enum-told) where
-  cleared : first (zoomChecks (c .before .before .before .before .before .before .before .args .r) (c .before .before .before .before .before .before .before .args .input .now) (length (c .before .before .before .before .before .before .before .args .output .now)) (length (c .before .before .before .before .before .before .before .args .coverage .now)) (length (c .before .before .before .before .before .before .before .args .work .now))) ≡ Passed
+  cleared : first (zoomChecks Volume (c .before .before .before .before .before .before .before .args .r) (c .before .before .before .before .before .before .before .args .input .now) (length (c .before .before .before .before .before .before .before .args .output .now)) (length (c .before .before .before .before .before .before .before .args .coverage .now)) (length (c .before .before .before .before .before .before .before .args .work .now))) ≡ Passed
   cleared = sym (c .before .before .zoom-verdict .ensures) ∙ c .enum-told .given .1
 
-  passes : Passes (c .before .before .before .before .before .before .before .args .r) (zoomAxes (c .before .before .before .before .before .before .before .args .r)) (length (c .before .before .before .before .before .before .before .args .input .now)) (length (c .before .before .before .before .before .before .before .args .output .now)) (length (c .before .before .before .before .before .before .before .args .coverage .now)) (length (c .before .before .before .before .before .before .before .args .work .now))
-  passes = zoom-passes (c .before .before .before .before .before .before .before .args .r) (c .before .before .before .before .before .before .before .args .input .now) (length (c .before .before .before .before .before .before .before .args .output .now)) (length (c .before .before .before .before .before .before .before .args .coverage .now)) (length (c .before .before .before .before .before .before .before .args .work .now)) cleared
+  passes : Passes (c .before .before .before .before .before .before .before .args .r) (zoomAxes (c .before .before .before .before .before .before .before .args .r)) (countOf (zoomDims (c .before .before .before .before .before .before .before .args .r))) (length (c .before .before .before .before .before .before .before .args .input .now)) (length (c .before .before .before .before .before .before .before .args .output .now)) (length (c .before .before .before .before .before .before .before .args .coverage .now)) (length (c .before .before .before .before .before .before .before .args .work .now))
+  passes = zoom-passes Volume (c .before .before .before .before .before .before .before .args .r) (c .before .before .before .before .before .before .before .args .input .now) (length (c .before .before .before .before .before .before .before .args .output .now)) (length (c .before .before .before .before .before .before .before .args .coverage .now)) (length (c .before .before .before .before .before .before .before .args .work .now)) cleared
 
   ready : Zoomed (c .before .before .before .before .before .before .before .args .r) × Lengths (zoomDims (c .before .before .before .before .before .before .before .args .r))
-  ready = zoom-ready (c .before .before .before .before .before .before .before .args .r) (c .before .before .before .before .before .before .before .args .input .now) (length (c .before .before .before .before .before .before .before .args .output .now)) (length (c .before .before .before .before .before .before .before .args .coverage .now)) (length (c .before .before .before .before .before .before .before .args .work .now)) cleared
+  ready = zoom-ready Volume (c .before .before .before .before .before .before .before .args .r) (c .before .before .before .before .before .before .before .args .input .now) (length (c .before .before .before .before .before .before .before .args .output .now)) (length (c .before .before .before .before .before .before .before .args .coverage .now)) (length (c .before .before .before .before .before .before .before .args .work .now)) cleared
 
 zoom-verdict-requires : tie.Need-zoom-verdict-requires
 zoom-verdict-requires c κs = search needs
@@ -41,7 +44,7 @@ zoom-axes-requires c κs = (passes (c .before) .admitted .lengths, (c .zoom-dims
 write-requires : tie.Need-write-requires
 write-requires c κs =
     let a = c .before .before .before .before .before .before .before .before .before .before .before .before .args in
-    subst (λ (x : Axes). Passes (a .r) x (length (a .input .now)) (length (a .output .now)) (length (a .coverage .now)) (length (a .work .now))) (sym (c .before .before .before .zoom-axes .ensures)) (passes (c .before .before .before .before .before))
+    subst (λ (x : Axes). Passes (a .r) x (x .x .out * (x .y .out * x .z .out)) (length (a .input .now)) (length (a .output .now)) (length (a .coverage .now)) (length (a .work .now))) (sym (c .before .before .before .zoom-axes .ensures)) (passes (c .before .before .before .before .before))
 
 enum-known-why : tie.Need-enum-known-why
 enum-known-why c = search needs

@@ -1,6 +1,7 @@
 -- `resample::write::take_source` meets its contract.
 use mathlib.Core.Path.{_∙_, sym}
-use Rattle.resample.proofs.Preparing.{plain-count, source-plain, padded-count, source-padded, sized}
+use Rattle.request.proofs.Requests.{plain-count}
+use Rattle.resample.proofs.Preparing.{source-plain, padded-count, source-padded, sized}
 use borrow.Author.Needs.{needs}
 use Rattle.resample.proofs.write.take_source.Statement.{statement}
 use Rattle.resample.proofs.write.take_source.Tie as tie

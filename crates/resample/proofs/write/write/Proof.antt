@@ -6,7 +6,7 @@ use Rattle.resample.proofs.write.write.Statement.{statement}
 use Rattle.resample.proofs.write.write.Tie as tie
 
 write-values-requires : tie.Need-write-values-requires
-write-values-requires c κs = let p = c .before .before .before .before .before .before .pre in (p .admitted, p .room)
+write-values-requires c κs = let p = c .before .before .before .before .before .before .pre in (p .admitted, (p .values, p .room))
 
 write-codes-requires : tie.Need-write-codes-requires
 write-codes-requires c κs = let p = c .before .before .before .before .before .before .before .before .before .before .before .before .pre in (p .admitted .order, (p .codes, (p .admitted .x .short, (p .admitted .y .short, (p .admitted .some, p .admitted .z .short)))))

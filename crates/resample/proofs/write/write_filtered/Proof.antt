@@ -14,7 +14,7 @@ sweep-requires : tie.Need-sweep-requires
 sweep-requires c κs =
     let s = c .before .before .before .before .before .before .before .before .before .before .before .before in
     let p = s .pre .1 .0 in
-    (p .order, (p .values, (c .before .before .before .before .prepare .kept .0 ∙ s .pre .1 .1 ∙ p .long, ((p .rows, (p .row, p .some)), (p .x, (p .y, p .z))))))
+    (p .order, (s .pre .1 .1 .0, (c .before .before .before .before .prepare .kept .0 ∙ s .pre .1 .1 .1 ∙ p .long, ((p .rows, (p .row, p .some)), (p .x, (p .y, p .z))))))
 
 same-length : tie.Need-same-length
 same-length c = search needs

@@ -3,7 +3,8 @@ use mathlib.Core.Path.{_∙_, sym, ap}
 use mathlib.Core.List.{List}
 use lib.Ieee.{Float}
 use Rattle.voxels.specs.Voxel.{values}
-use Rattle.resample.proofs.Preparing.{plain-padding, plain-count, unfiltered}
+use Rattle.request.proofs.Requests.{plain-padding, plain-count}
+use Rattle.resample.proofs.Preparing.{unfiltered}
 use borrow.Author.Needs.{needs}
 use Rattle.resample.proofs.write.write_plain.Statement.{statement}
 use Rattle.resample.proofs.write.write_plain.Tie as tie
@@ -11,8 +12,8 @@ use Rattle.resample.proofs.write.write_plain.Tie as tie
 sweep-requires : tie.Need-sweep-requires
 sweep-requires c κs =
     let s = c .before .before .before .before .before .before in
-    let p = s .pre .1 in
-    (p .order, (p .values, (p .all ∙ sym (plain-count (s .args .r) (plain-padding (s .args .r) (s .pre .0))) ∙ p .long, ((p .rows, (p .row, p .some)), (p .x, (p .y, p .z))))))
+    let p = s .pre .1 .0 in
+    (p .order, (s .pre .1 .1, (p .all ∙ sym (plain-count (s .args .r) (plain-padding (s .args .r) (s .pre .0))) ∙ p .long, ((p .rows, (p .row, p .some)), (p .x, (p .y, p .z))))))
 
 same-length : tie.Need-same-length
 same-length c = search needs

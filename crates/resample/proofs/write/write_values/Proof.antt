@@ -3,7 +3,8 @@ use Prim.Native.Nat.{_-_}
 use mathlib.Core.Path.{_≡_, _∙_, sym}
 use native.Mathlib.Omega.{arith}
 use Rattle.lists.proofs.Stretches.{part-length}
-use Rattle.resample.proofs.Preparing.{needed-all, work-begins, work-stays}
+use Rattle.request.proofs.Requests.{needed-all}
+use Rattle.resample.proofs.Preparing.{work-begins, work-stays}
 use borrow.Author.Needs.{needs}
 use Rattle.resample.proofs.write.write_values.Statement.{statement}
 use Rattle.resample.proofs.write.write_values.Tie as tie
@@ -29,10 +30,10 @@ write-filtered-requires c κs =
     let f = sym (c .before .before .before .before .filters .ensures) ∙ c .before .before .before .if1 .taken in
     let need = c .before .before .needed in
     let n : need .result - 0 ≡ need .result = omega arith in
-    (f, (s .pre .0, part-length (s .args .work .now) 0 (need .result - 0) (omega (arith, need .ensures, s .pre .1)) ∙ n ∙ need .ensures ∙ needed-all (s .args .r) f))
+    (f, (s .pre .0, (s .pre .1 .0, part-length (s .args .work .now) 0 (need .result - 0) (omega (arith, need .ensures, s .pre .1 .1)) ∙ n ∙ need .ensures ∙ needed-all (s .args .r) f)))
 
 write-plain-requires : tie.Need-write-plain-requires
-write-plain-requires c κs = (sym (c .before .before .filters .ensures) ∙ c .before .if1 .left, c .before .before .before .before .before .before .pre .0)
+write-plain-requires c κs = (sym (c .before .before .filters .ensures) ∙ c .before .if1 .left, (let s = c .before .before .before .before .before .before in (s .pre .0, s .pre .1 .0)))
 
 same-length : tie.Need-same-length
 same-length c = search needs

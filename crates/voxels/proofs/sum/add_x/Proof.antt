@@ -7,7 +7,7 @@ use borrow.Author.Needs.{needs}
 use Rattle.voxels.specs.Sum.{sumX}
 use Rattle.voxels.specs.Bookkeeping.{number, place}
 use Rattle.voxels.specs.Sum.{lent}
-use Rattle.voxels.proofs.Sums.{Room, room, turn-x}
+use Rattle.voxels.proofs.Sums.{Room, room, turn-x-lent}
 use Rattle.voxels.proofs.sum.add_x.Statement.{statement}
 use Rattle.voxels.proofs.sum.add_x.Tie as tie
 
@@ -71,7 +71,7 @@ loop-less c = search needs
 loop-again : tie.Need-loop-again Inv-loop μ-loop
 loop-again c =
     let at = c .before .before .before .before .before in
-    (omega arith, λ j. turn-x _ _ _ _ _ _ _ (at .before .before .pre .1 .0 j) (at .loop .inv .1 j) (c .step .ensures j))
+    (omega arith, λ j. turn-x-lent _ _ _ _ _ _ _ (at .before .before .pre .1 .0 j) (at .loop .inv .1 j) (c .step .ensures j))
 
 returns : tie.Need-returns Inv-loop μ-loop
 returns c =

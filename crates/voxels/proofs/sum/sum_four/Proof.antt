@@ -7,7 +7,7 @@ use borrow.Author.Needs.{needs}
 use Rattle.voxels.specs.Sum.{sumZ, sumAt}
 use Rattle.voxels.specs.Bookkeeping.{column, lane, number}
 use Rattle.voxels.specs.Sum.{lent}
-use Rattle.voxels.proofs.Sums.{in-each, lane-below, turn-z}
+use Rattle.voxels.proofs.Sums.{in-each, lane-below, turn-z-tabled}
 use Rattle.voxels.proofs.sum.sum_four.Statement.{statement}
 use Rattle.voxels.proofs.sum.sum_four.Tie as tie
 
@@ -48,7 +48,7 @@ loop-again : tie.Need-loop-again Inv-loop μ-loop
 loop-again c =
     let at = c .before .before .before .before in
     let a = at .before .before .before .before .args in
-    (omega arith, λ j. turn-z _ _ _ _ _ _ (a .at .now) (a .weight .now) (a .o) (lane j) (at .loop .k) (at .loop .inv .1 j) (c .before .before .places-at .ensures j) (c .before .weights-at .ensures j) (c .add-y .ensures j))
+    (omega arith, λ j. turn-z-tabled _ _ _ _ _ _ (a .at .now) (a .weight .now) (a .o) (lane j) (at .loop .k) (at .loop .inv .1 j) (c .before .before .places-at .ensures j) (c .before .weights-at .ensures j) (c .add-y .ensures j))
 
 returns : tie.Need-returns Inv-loop μ-loop
 unfolding sumAt

@@ -1,11 +1,11 @@
--- `voxels::sweep::drop_value` meets its contract.
+-- `coverage::cover::drop_value` meets its contract.
 use mathlib.Core.Path.{sym, ap}
 use lib.Ieee.{ofBits, ofInt}
 use Rattle.border.specs.declared.BorderMode.{BorderMode}
 use Rattle.coverage.specs.Coverage.{dropValue}
 use borrow.Author.Needs.{needs}
-use Rattle.voxels.proofs.sweep.drop_value.Statement.{statement}
-use Rattle.voxels.proofs.sweep.drop_value.Tie as tie
+use Rattle.coverage.proofs.cover.drop_value.Statement.{statement}
+use Rattle.coverage.proofs.cover.drop_value.Tie as tie
 
 enum-known-mode : tie.Need-enum-known-mode
 enum-known-mode c = search needs
