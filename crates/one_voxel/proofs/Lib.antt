@@ -1,0 +1,3 @@
+-- The laws of one voxel.
+pub mod Voxels
+pub mod Points
