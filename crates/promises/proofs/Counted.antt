@@ -73,7 +73,7 @@ unfolding countsOf
 counted e r input output coverage work done =
     let s = succeeds r input output coverage work e done in
     let a = axesOf e r in
-    let count = s .passes .admitted .values in
+    let count = s .passes .values in
     let long = codes-length (r .order) (r .mode) (a .x) (a .y) (a .z) in
     subst (λ (c : Call). Counted (length output) c) (sym (s .writes)) (record {
       coverage = refl;

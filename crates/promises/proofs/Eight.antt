@@ -18,6 +18,7 @@ use Rattle.prefilter.specs.Volume.{countOf}
 use Rattle.request.specs.declared.Request.{Request}
 use Rattle.request.specs.Sizes.{sourceDims, needed}
 use Rattle.request.specs.Conditions.{badLengths, badShift, badFactors, tooLarge, wrong, tooShort, wildFill, someWild}
+use Rattle.refusal.specs.declared.Asked.the-variants.{Volume}
 use Rattle.refusal.specs.Refusals.{shiftChecks}
 use Rattle.promises.specs.Given.{holds}
 use Rattle.promises.specs.Moves.{Whole}
@@ -50,7 +51,7 @@ module _ (r : Request) (s : ℕ → ℤ) (input : List Float) (output coverage w
   right : {length : ℕ} → length ≡ countOf (r .dims) → wrong length (countOf (r .dims)) ≡ false
   right e = ap not (eq-eqb _ _ e)
 
-  pub eight-clear : (n : ℕ) → n ≤ 8 → holds (shiftChecks r input output coverage work) n ≡ false
+  pub eight-clear : (n : ℕ) → n ≤ 8 → holds (shiftChecks Volume r input output coverage work) n ≡ false
   unfolding badFactors
   eight-clear zero l = refl
   eight-clear (suc zero) l = le-ltb 5 (r .order) (omega arith)

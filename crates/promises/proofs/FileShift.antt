@@ -65,7 +65,7 @@ file-shift-again {r} {from} {to} {codes} {fill} {s} g constant low whole fill64 
     let p = entry-succeeds (g .resamples) .passes in
     let same = shift-dims g ∙ sym (g .resamples .asked) in
     let count = ap countOf same in
-    let h = shift-back r input (l .output) (l .coverage) (l .work) fill s constant low whole (volume-f64 (voxelsOf from)) fill64 (λ n _. clear n) back (lent .output) (lent .coverage) (lent .work) (dims ∙ same) constant' low' whole' (output ∙ count ∙ sym (p .admitted .values)) (coverage ∙ count ∙ sym (p .codes)) .0 in
+    let h = shift-back r input (l .output) (l .coverage) (l .work) fill s constant low whole (volume-f64 (voxelsOf from)) fill64 (λ n _. clear n) back (lent .output) (lent .coverage) (lent .work) (dims ∙ same) constant' low' whole' (output ∙ count ∙ sym (p .values)) (coverage ∙ count ∙ sym (p .codes)) .0 in
     let lengths = subst (λ (d : List ℕ). first (lengthChecks d) ≡ Passed) (sym (again .1)) (lengths-pass (outputDims shifting r) (admits (g .resamples) .0) (admits (g .resamples) .1)) in
     let read = reads-voxels to (lent .volume) (voxelsOf to) (again .0) lengths volume refl in (
       ap (λ (c : NpyCall). c .answer) read,

@@ -49,7 +49,7 @@ module _ {e : Entry} {r : Request} {from : List ℕ} {lent : Lent} {out : List �
   entry-succeeds = succeeds r (volumeOf (voxelsOf from)) (lent .output) (lent .coverage) (lent .work) e entry-done
 
   out-long : length out ≡ countOf (outputDims e r)
-  out-long = sym (length-map out (ofBits binary64)) ∙ ap length (s .bits .same ∙ ap (λ (c : Call). c .output) resampled-is) ∙ counted e r (volumeOf (voxelsOf from)) (lent .output) (lent .coverage) (lent .work) entry-done .values ∙ entry-succeeds .passes .admitted .values
+  out-long = sym (length-map out (ofBits binary64)) ∙ ap length (s .bits .same ∙ ap (λ (c : Call). c .output) resampled-is) ∙ counted e r (volumeOf (voxelsOf from)) (lent .output) (lent .coverage) (lent .work) entry-done .values ∙ entry-succeeds .passes .values
 
   pub admits : (badLengths (outputDims e r) ≡ false) × (tooLarge (countOf (outputDims e r)) ≡ false) × (someWild (volumeOf (voxelsOf from)) ≡ false)
   admits = admitted r (volumeOf (voxelsOf from)) (lent .output) (lent .coverage) (lent .work) e entry-done

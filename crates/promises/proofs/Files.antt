@@ -5,45 +5,49 @@ use mathlib.Core.Path.{_≡_, refl, sym, ap, _∙_, subst}
 use mathlib.Core.Logic.{_↔_}
 use mathlib.Core.Bool.{Bool, true, false, cond, true≢false}
 use mathlib.Core.List.{List}
-use lib.Dec.{lit≤}
+use lib.Dec.{leb, lit≤}
 use lib.ListN.{length, take}
 use Rattle.words.specs.Words.{Below}
 use Rattle.words.proofs.Numbers.{length-words}
 use Rattle.prefilter.specs.Volume.{countOf}
 use Rattle.request.specs.Conditions.{badLengths, tooLarge}
+use Rattle.refusal.specs.declared.Refusal.{Refusal}
 use Rattle.refusal.specs.declared.Refusal.the-variants.{NotNpy, Length, Count}
 use Rattle.refusal.specs.declared.Verdict.{Verdict}
 use Rattle.refusal.specs.declared.Verdict.the-variants.{Passed, Refused}
-use Rattle.refusal.specs.Refusals.{Check, first, numberBy}
-use Rattle.refusal.proofs.Firsts.{all-clear}
+use Rattle.refusal.specs.Refusals.{Check, first, numberOf, numberBy}
+use Rattle.refusal.proofs.Firsts.{all-clear, allSay}
 use Rattle.npy.specs.File.{textStart, textLength, isNpy, dimsOf, voxelsOf, writtenHeader, written}
 use Rattle.npy.specs.Call.{NpyCall, npyCallOf, npyCallBy, lengthChecks, readChecks, writeChecks, sizeOf, dimsCall, readCall, writeCall}
 use Rattle.npy.proofs.Verdicts.{write-passed, read-passed, read-clear, passing, write-clear}
 use Rattle.npy.proofs.RoundTrip.{written-dims, written-is-npy, written-voxels, rewritten}
 use Rattle.promises.specs.Given.{holds, FirstToHold}
 use Rattle.promises.specs.Filings.{Filing, measuring, reading, writing, fileCall, held, made, otherFile, fileChecks}
-use Rattle.promises.proofs.Given.{Rising, exactly, success, at-most-nine}
+use Rattle.promises.proofs.Given.{Rising, exactly, success, at-most}
 
--- ---- 10 stands before checks in the order of their numbers
-module _ (l : List Check) (u : Rising 0 l) where
+-- ---- 10 stands before checks in the order of their numbers, all of them document 01's
+abbrev Later : List Check → Type 0
+Later l = Rising 0 l × (allSay (λ (why : Refusal). leb (numberOf why) 9) l ≡ true)
+
+module _ (l : List Check) (u : Later l) where
   abbrev behind : Bool → ℕ
   behind other = numberBy (cond other (Refused NotNpy) (first l))
 
   is-ten : (other : Bool) → (behind other ≡ 10) ↔ (other ≡ true)
   is-ten true = (λ e. refl, λ e. refl)
-  is-ten false = (λ e. absurd (omega (arith, e, at-most-nine l u refl)), λ e. absurd (true≢false (sym e)))
+  is-ten false = (λ e. absurd (omega (arith, e, at-most 9 l (u .1) refl)), λ e. absurd (true≢false (sym e)))
 
   is-most : (other : Bool) → behind other ≤ 10
   is-most true = lit≤ tt
-  is-most false = omega (arith, at-most-nine l u refl)
+  is-most false = omega (arith, at-most 9 l (u .1) refl)
 
   is-later : (other : Bool) (n : ℕ) → 1 ≤ n → n ≤ 9 → (behind other ≡ n) ↔ ((other ≡ false) × FirstToHold l n)
   is-later true n p q = (λ e. absurd (omega (arith, e, q)), λ h. absurd (true≢false (h .0)))
-  is-later false n p q = let x = exactly l u refl n p in (λ e. (refl, x .0 e), λ h. x .1 (h .1))
+  is-later false n p q = let x = exactly l (u .0) refl n p in (λ e. (refl, x .0 e), λ h. x .1 (h .1))
 
   is-none : (other : Bool) → (behind other ≡ 0) ↔ ((other ≡ false) × ((n : ℕ) → holds l n ≡ false))
   is-none true = (λ e. absurd (omega (arith, e)), λ h. absurd (true≢false (h .0)))
-  is-none false = let x = success l u refl in (λ e. (refl, x .0 e), λ h. x .1 (h .1))
+  is-none false = let x = success l (u .0) refl in (λ e. (refl, x .0 e), λ h. x .1 (h .1))
 
 -- ---- the three calls
 abbrev pub verdict : Filing → Verdict
@@ -58,18 +62,18 @@ module _ (c : Filing) where
   abbrev fileNumber : ℕ
   fileNumber = numberBy (fileCall c .answer)
 
-  file-rising : Rising 0 (fileChecks c)
-  file-rising = elim c [
-    | measuring file dims ↦ (lit≤ tt, lit≤ tt)
-    | reading file volume ↦ (lit≤ tt, (lit≤ tt, (lit≤ tt, lit≤ tt)))
-    | writing d volume bytes ↦ (lit≤ tt, (lit≤ tt, (lit≤ tt, lit≤ tt)))
+  file-later : Later (fileChecks c)
+  file-later = elim c [
+    | measuring file dims ↦ ((lit≤ tt, tt), refl)
+    | reading file volume ↦ ((lit≤ tt, (lit≤ tt, (lit≤ tt, tt))), refl)
+    | writing d volume bytes ↦ ((lit≤ tt, (lit≤ tt, (lit≤ tt, tt))), refl)
   ]
 
   call-is : fileCall c ≡ npyCallBy (verdict c) (made c) (held c)
   unfolding dimsCall readCall writeCall
   call-is = elim c [ measuring file dims ↦ refl | reading file volume ↦ refl | writing d volume bytes ↦ refl ]
 
-  file-numbered : fileNumber ≡ behind (fileChecks c) file-rising (otherFile c)
+  file-numbered : fileNumber ≡ behind (fileChecks c) file-later (otherFile c)
   file-numbered = ap (λ (n : NpyCall). numberBy (n .answer)) call-is ∙ by (verdict c) (made c) (held c)
     where
       by : (v : Verdict) (made held : List ℕ) → numberBy (npyCallBy v made held .answer) ≡ numberBy v
@@ -91,18 +95,18 @@ module _ (c : Filing) where
       left (Refused why) made held e = let z : _≡_ {A = ℕ} 0 1 = cc in absurd (omega arith)
 
   pub file-answered : fileNumber ≤ 10
-  file-answered = subst (λ (m : ℕ). m ≤ 10) (sym file-numbered) (is-most (fileChecks c) file-rising (otherFile c))
+  file-answered = subst (λ (m : ℕ). m ≤ 10) (sym file-numbered) (is-most (fileChecks c) file-later (otherFile c))
 
   -- "10, any other file"
   pub ten-exactly : (fileNumber ≡ 10) ↔ (otherFile c ≡ true)
-  ten-exactly = subst (λ (m : ℕ). (m ≡ 10) ↔ (otherFile c ≡ true)) (sym file-numbered) (is-ten (fileChecks c) file-rising (otherFile c))
+  ten-exactly = subst (λ (m : ℕ). (m ≡ 10) ↔ (otherFile c ≡ true)) (sym file-numbered) (is-ten (fileChecks c) file-later (otherFile c))
 
   -- 3, 6 and 7 then, in this order
   pub file-refusal-exactly : (n : ℕ) → 1 ≤ n → n ≤ 9 → (fileNumber ≡ n) ↔ ((otherFile c ≡ false) × FirstToHold (fileChecks c) n)
-  file-refusal-exactly n p q = subst (λ (m : ℕ). (m ≡ n) ↔ ((otherFile c ≡ false) × FirstToHold (fileChecks c) n)) (sym file-numbered) (is-later (fileChecks c) file-rising (otherFile c) n p q)
+  file-refusal-exactly n p q = subst (λ (m : ℕ). (m ≡ n) ↔ ((otherFile c ≡ false) × FirstToHold (fileChecks c) n)) (sym file-numbered) (is-later (fileChecks c) file-later (otherFile c) n p q)
 
   pub file-success-exactly : (fileNumber ≡ 0) ↔ ((otherFile c ≡ false) × ((n : ℕ) → holds (fileChecks c) n ≡ false))
-  file-success-exactly = subst (λ (m : ℕ). (m ≡ 0) ↔ ((otherFile c ≡ false) × ((n : ℕ) → holds (fileChecks c) n ≡ false))) (sym file-numbered) (is-none (fileChecks c) file-rising (otherFile c))
+  file-success-exactly = subst (λ (m : ℕ). (m ≡ 0) ↔ ((otherFile c ≡ false) × ((n : ℕ) → holds (fileChecks c) n ≡ false))) (sym file-numbered) (is-none (fileChecks c) file-later (otherFile c))
 
 -- ---- what lets reader and writer pass
 pub lengths-pass : (d : List ℕ) → badLengths d ≡ false → tooLarge (countOf d) ≡ false → first (lengthChecks d) ≡ Passed

@@ -5,24 +5,27 @@ use mathlib.Core.Path.{_≡_, refl, sym, ap, _∙_, subst}
 use mathlib.Core.Logic.{_↔_}
 use mathlib.Core.Bool.{Bool, true, false, cond, true≢false}
 use mathlib.Core.List.{List, [], _∷_}
-use lib.Dec.{eqb, ltb, lit≤}
+use lib.Dec.{eqb, ltb, leb, lit≤}
 use lib.ListN.{length}
 use lib.Ieee.{Float}
-use borrow.Author.Tests.{eqb-true, eqb-false, eq-eqb, ne-eqb, ltb-true, ltb-false}
+use borrow.Author.Tests.{eqb-true, eqb-false, eq-eqb, ne-eqb, ltb-true, ltb-false, leb-true}
 use Rattle.request.specs.declared.Axes.{Axes}
 use Rattle.request.specs.declared.Request.{Request}
 use Rattle.refusal.specs.declared.Refusal.{Refusal}
-use Rattle.refusal.specs.declared.Refusal.the-variants.{NotNpy, Order, AxisNumber, Length, Factor, OutputLength, Count, Buffer, Value, Beside}
+use Rattle.refusal.specs.declared.Refusal.the-variants.{NotNpy, Order, AxisNumber, Length, Factor, OutputLength, Count, Buffer, Value, Beside, Index}
 use Rattle.refusal.specs.declared.Verdict.{Verdict}
 use Rattle.refusal.specs.declared.Verdict.the-variants.{Passed, Refused}
 use Rattle.refusal.specs.Refusals.{Check, first, numberOf, numberBy}
+use Rattle.refusal.proofs.Firsts.{allSay, found-among}
 use Rattle.resample.specs.Call.{callBy, numberIn, filterCallBy, shiftCall, zoomCall, splineFilterCall, splineFilter1dCall}
-use Rattle.promises.specs.Entries.{Entry, shifting, zooming, Filter, whole, along, call, checks, axesOf, filterCall, filterChecks}
+use Rattle.one_voxel.specs.declared.Voxel.{Voxel}
+use Rattle.one_voxel.specs.Call.{voxelCallBy, shiftVoxelCall, zoomVoxelCall}
+use Rattle.promises.specs.Entries.{Entry, shifting, zooming, Filter, whole, along, call, checks, axesOf, voxelCall, voxelChecks, filterCall, filterChecks}
 use Rattle.promises.specs.Given.{holds, FirstToHold}
 
--- ---- checks in the order of their numbers, all above k and none above 9
+-- ---- checks in the order of their numbers, all above k
 abbrev pub Rising : ℕ → List Check → Type 0
-Rising k [] = k ≤ 9
+Rising k [] = Unit
 Rising k (c ∷ cs) = (k < numberOf (c .says)) × Rising (numberOf (c .says)) cs
 
 either : (b : Bool) {A : Type 0} → (b ≡ true → A) → (b ≡ false → A) → A
@@ -52,18 +55,7 @@ some-number Count e = omega (arith, e)
 some-number Buffer e = omega (arith, e)
 some-number Value e = omega (arith, e)
 some-number Beside e = omega (arith, e)
-
-most : (l : List Check) (k : ℕ) → Rising k l → k ≤ 9
-most [] k u = u
-most (c ∷ cs) k u = omega (arith, u .0, most cs (numberOf (c .says)) (u .1))
-
-one-of-nine : (l : List Check) (k : ℕ) → Rising k l → numberBy (first l) ≤ 9
-one-of-nine [] k u = lit≤ tt
-one-of-nine (c ∷ cs) k u = go (c .applies) (one-of-nine cs (numberOf (c .says)) (u .1))
-  where
-    go : (b : Bool) → numberBy (first cs) ≤ 9 → numberBy (cond b (Refused (c .says)) (first cs)) ≤ 9
-    go true h = most cs (numberOf (c .says)) (u .1)
-    go false h = h
+some-number Index e = omega (arith, e)
 
 -- ---- the law of every such list, one check more
 module _ (c : Check) (cs : List Check) (n : ℕ) (u : Rising (numberOf (c .says)) cs) where
@@ -120,8 +112,13 @@ module _ (l : List Check) (u : Rising 0 l) {number : ℕ} (e : number ≡ number
   pub success : (number ≡ 0) ↔ ((n : ℕ) → holds l n ≡ false)
   success = (λ q. nothing-holds l (sym e ∙ q), λ h. e ∙ nothing-found l 0 u h)
 
-  pub at-most-nine : number ≤ 9
-  at-most-nine = subst (λ (n : ℕ). n ≤ 9) (sym e) (one-of-nine l 0 u)
+-- ---- and none of the numbers above `top`
+pub at-most : (top : ℕ) (l : List Check) → allSay (λ (why : Refusal). leb (numberOf why) top) l ≡ true → {number : ℕ} → number ≡ numberBy (first l) → number ≤ top
+at-most top l h e = subst (λ (n : ℕ). n ≤ top) (sym e) (go (first l) refl)
+  where
+    go : (v : Verdict) → first l ≡ v → numberBy v ≤ top
+    go Passed q = omega arith
+    go (Refused why) q = leb-true (numberOf why) top (found-among (λ (why : Refusal). leb (numberOf why) top) l h why q)
 
 -- ---- `shift` and `zoom`
 module _ (e : Entry) (r : Request) (input output : List Float) (coverage : List ℕ) (work : List Float) where
@@ -133,8 +130,8 @@ module _ (e : Entry) (r : Request) (input output : List Float) (coverage : List 
 
   rising : Rising 0 tests
   rising = elim e [
-    | shifting ↦ (lit≤ tt, (lit≤ tt, (lit≤ tt, (lit≤ tt, (lit≤ tt, (lit≤ tt, (lit≤ tt, lit≤ tt)))))))
-    | zooming ↦ (lit≤ tt, (lit≤ tt, (lit≤ tt, (lit≤ tt, (lit≤ tt, (lit≤ tt, (lit≤ tt, (lit≤ tt, lit≤ tt))))))))
+    | shifting ↦ (lit≤ tt, (lit≤ tt, (lit≤ tt, (lit≤ tt, (lit≤ tt, (lit≤ tt, (lit≤ tt, tt)))))))
+    | zooming ↦ (lit≤ tt, (lit≤ tt, (lit≤ tt, (lit≤ tt, (lit≤ tt, (lit≤ tt, (lit≤ tt, (lit≤ tt, tt))))))))
   ]
 
   pub numbered : number ≡ numberBy (first tests)
@@ -155,7 +152,7 @@ module _ (e : Entry) (r : Request) (input output : List Float) (coverage : List 
   success-exactly = success tests rising numbered
 
   pub answered : number ≤ 9
-  answered = at-most-nine tests rising numbered
+  answered = at-most 9 tests (elim e [ shifting ↦ refl | zooming ↦ refl ]) numbered
 
 -- ---- `spline_filter` and `spline_filter1d`
 module _ (f : Filter) (r : Request) (input output : List Float) where
@@ -167,8 +164,8 @@ module _ (f : Filter) (r : Request) (input output : List Float) where
 
   filter-rising : Rising 0 filterTests
   filter-rising = elim f [
-    | whole ↦ (lit≤ tt, (lit≤ tt, (lit≤ tt, (lit≤ tt, (lit≤ tt, lit≤ tt)))))
-    | along axis ↦ (lit≤ tt, (lit≤ tt, (lit≤ tt, (lit≤ tt, (lit≤ tt, (lit≤ tt, lit≤ tt))))))
+    | whole ↦ (lit≤ tt, (lit≤ tt, (lit≤ tt, (lit≤ tt, (lit≤ tt, tt)))))
+    | along axis ↦ (lit≤ tt, (lit≤ tt, (lit≤ tt, (lit≤ tt, (lit≤ tt, (lit≤ tt, tt))))))
   ]
 
   filter-numbered : filterNumber ≡ numberBy (first filterTests)
@@ -189,4 +186,38 @@ module _ (f : Filter) (r : Request) (input output : List Float) where
   filter-success-exactly = success filterTests filter-rising filter-numbered
 
   pub filter-answered : filterNumber ≤ 9
-  filter-answered = at-most-nine filterTests filter-rising filter-numbered
+  filter-answered = at-most 9 filterTests (elim f [ whole ↦ refl | along axis ↦ refl ]) filter-numbered
+
+-- ---- one voxel of `shift` or `zoom` (#105)
+module _ (e : Entry) (r : Request) (input work : List Float) (at : List ℕ) (value : List Float) (code : List ℕ) where
+  abbrev voxelTests : List Check
+  voxelTests = voxelChecks e r input (length value) (length code) (length work) at
+
+  abbrev voxelNumber : ℕ
+  voxelNumber = numberBy (voxelCall e r input work at value code .answer)
+
+  voxel-rising : Rising 0 voxelTests
+  voxel-rising = elim e [
+    | shifting ↦ (lit≤ tt, (lit≤ tt, (lit≤ tt, (lit≤ tt, (lit≤ tt, (lit≤ tt, (lit≤ tt, (lit≤ tt, tt))))))))
+    | zooming ↦ (lit≤ tt, (lit≤ tt, (lit≤ tt, (lit≤ tt, (lit≤ tt, (lit≤ tt, (lit≤ tt, (lit≤ tt, (lit≤ tt, tt)))))))))
+  ]
+
+  pub voxel-numbered : voxelNumber ≡ numberBy (first voxelTests)
+  unfolding shiftVoxelCall zoomVoxelCall
+  voxel-numbered = elim e [
+    | shifting ↦ by (first (voxelChecks shifting r input (length value) (length code) (length work) at)) _
+    | zooming ↦ by (first (voxelChecks zooming r input (length value) (length code) (length work) at)) _
+  ]
+    where
+      by : (v : Verdict) (made : Voxel) → numberBy (voxelCallBy v made value code .answer) ≡ numberBy v
+      by Passed made = refl
+      by (Refused why) made = refl
+
+  pub voxel-refusal-exactly : (n : ℕ) → 1 ≤ n → (voxelNumber ≡ n) ↔ FirstToHold voxelTests n
+  voxel-refusal-exactly = exactly voxelTests voxel-rising voxel-numbered
+
+  pub voxel-success-exactly : (voxelNumber ≡ 0) ↔ ((n : ℕ) → holds voxelTests n ≡ false)
+  voxel-success-exactly = success voxelTests voxel-rising voxel-numbered
+
+  pub voxel-answered : voxelNumber ≤ 11
+  voxel-answered = at-most 11 voxelTests (elim e [ shifting ↦ refl | zooming ↦ refl ]) voxel-numbered

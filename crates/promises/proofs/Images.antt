@@ -25,7 +25,7 @@ module _ {r : Request} {input output : List Float} {coverage : List ℕ} {work :
   result = shiftCall r input output coverage work .output
 
   pub result-length : length result ≡ countOf (r .dims)
-  result-length = counted shifting r input output coverage work (succeeded a) .values ∙ success a .passes .admitted .values
+  result-length = counted shifting r input output coverage work (succeeded a) .values ∙ success a .passes .values
 
   module _ (P : Float → Type 0) (filled : P fill) (moved : (m : ℕ) (v : Float) → m < length input → Holds (getD input m nan) v → P v) where
     by-place : (i j k : ℕ) → Inside (r .dims) i j k → P (voxel (r .dims) result i j k)

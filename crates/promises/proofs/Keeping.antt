@@ -97,7 +97,7 @@ module _ (e : Entry) (r : Request) (input output : List Float) (coverage : List 
       pub kept-counted : (counts .computed + counts .folded ≡ length output) × (counts .filled ≡ 0) × (counts .defaulted ≡ 0)
       kept-counted =
           let c = counted e r input output coverage work done in
-          let long = c .codes ∙ succeeds r input output coverage work e done .passes .admitted .values in
+          let long = c .codes ∙ succeeds r input output coverage work e done .passes .values in
           let kept : (m : ℕ) → m < length codes → (getD codes m 0 ≡ 0) ⊎ (getD codes m 0 ≡ 3) = λ m l. each-place (outputDims e r) (λ (m : ℕ). (getD codes m 0 ≡ 0) ⊎ (getD codes m 0 ≡ 3)) kept-no-drop m (omega (arith, long)) in
           let none : (code : ℕ) → 1 ≤ code → code ≤ 2 → bearing code codes ≡ 0 = λ n a b. bearing-none n codes (λ m l q. ⊎-elim (λ z. omega (arith, q, z)) (λ z. omega (arith, q, z)) (kept m l)) in
           let filled : counts .filled ≡ 0 = omega (arith, c .each .filled, none 1 (lit≤ tt) (lit≤ tt)) in

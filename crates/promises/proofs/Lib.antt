@@ -9,6 +9,9 @@ pub mod Places
 pub mod Marked
 pub mod Counted
 pub mod Working
+pub mod Alone
+pub mod OnPaper
+pub mod Records
 pub mod Spans
 pub mod Spread
 pub mod Keeping

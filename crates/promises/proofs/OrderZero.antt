@@ -16,7 +16,7 @@ use Rattle.axis.specs.Bookkeeping.{Reached}
 use Rattle.axis.proofs.Coordinates.{low-pad}
 use Rattle.axis.proofs.Folding.{Padded, order-0-unfolded}
 use Rattle.coverage.specs.Coverage.{keptAt, ownCode}
-use Rattle.voxels.specs.Bookkeeping.{Reaches}
+use Rattle.axis.specs.Bookkeeping.{Reaches}
 use Rattle.request.specs.declared.Request.{Request}
 use Rattle.request.specs.Sizes.{padding}
 use Rattle.request.specs.Conditions.{besideAny}

@@ -11,7 +11,9 @@ use Rattle.refusal.specs.declared.Verdict.the-variants.{Passed, Refused}
 use Rattle.refusal.specs.Refusals.{first, numberBy}
 use Rattle.coverage.specs.Coverage.{none}
 use Rattle.resample.specs.Call.{Call, callBy, numberIn, countsIn, filterCallBy, shiftCall, zoomCall, splineFilterCall, splineFilter1dCall}
-use Rattle.promises.specs.Entries.{Entry, shifting, zooming, Filter, whole, along, call, checks, axesOf, filterCall, filterChecks}
+use Rattle.one_voxel.specs.declared.Voxel.{Voxel}
+use Rattle.one_voxel.specs.Call.{voxelCallBy, shiftVoxelCall, zoomVoxelCall}
+use Rattle.promises.specs.Entries.{Entry, shifting, zooming, Filter, whole, along, call, checks, axesOf, voxelCall, voxelChecks, filterCall, filterChecks}
 
 -- the call leaves these buffers, and counts nothing
 pub record Untouched (o : List Float) (c : List ℕ) (w : List Float) (after : Call) : Type 0 where
@@ -39,3 +41,14 @@ module _ (r : Request) (input output : List Float) where
   unfolding splineFilterCall splineFilter1dCall
   filter-refusal-leaves whole = same (first (filterChecks whole r input (length output))) _
   filter-refusal-leaves (along axis) = same (first (filterChecks (along axis) r input (length output))) _
+
+-- one voxel (#105)
+module _ (r : Request) (input work : List Float) (at : List ℕ) (value : List Float) (code : List ℕ) where
+  held : (v : Verdict) (made : Voxel) → (numberBy (voxelCallBy v made value code .answer) ≡ 0 → ⊥) → (voxelCallBy v made value code .value ≡ value) × (voxelCallBy v made value code .code ≡ code)
+  held Passed made h = absurd (h refl)
+  held (Refused why) made h = (refl, refl)
+
+  pub voxel-refusal-leaves : (e : Entry) → (numberBy (voxelCall e r input work at value code .answer) ≡ 0 → ⊥) → (voxelCall e r input work at value code .value ≡ value) × (voxelCall e r input work at value code .code ≡ code)
+  unfolding shiftVoxelCall zoomVoxelCall
+  voxel-refusal-leaves shifting = held (first (voxelChecks shifting r input (length value) (length code) (length work) at)) _
+  voxel-refusal-leaves zooming = held (first (voxelChecks zooming r input (length value) (length code) (length work) at)) _

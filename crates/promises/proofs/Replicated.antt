@@ -27,7 +27,7 @@ use Rattle.request.specs.Sizes.{padding}
 use Rattle.request.specs.Bookkeeping.{Lengths}
 use Rattle.request.proofs.Requests.{good-lengths}
 use Rattle.resample.specs.Call.{numberIn, countsIn}
-use Rattle.resample.proofs.Admitting.{good-shifts}
+use Rattle.refusal.proofs.Admitting.{good-shifts}
 use Rattle.promises.specs.Entries.{Entry, shifting, zooming, call, axesOf, outputDims}
 use Rattle.promises.specs.Place.{Inside, code}
 use Rattle.promises.proofs.Succeeding.{succeeds}

@@ -14,6 +14,7 @@ use Rattle.prefilter.specs.Volume.{countOf}
 use Rattle.request.specs.declared.Request.{Request}
 use Rattle.request.specs.Sizes.{needed}
 use Rattle.request.specs.Conditions.{badLengths, tooLarge, wild, wildFill, someWild}
+use Rattle.refusal.specs.declared.Asked.the-variants.{Volume}
 use Rattle.refusal.specs.Refusals.{shiftChecks}
 use Rattle.resample.specs.Call.{Call, numberIn, shiftCall}
 use Rattle.promises.specs.Given.{holds}
@@ -76,7 +77,7 @@ module _ {r : Request} {input output : List Float} {coverage : List ℕ} {work :
           lengths = ap badLengths dims ∙ a .clear 3 (lit≤ tt);
           count = ap (λ (d : List ℕ). tooLarge (countOf d)) dims ∙ or-false (tooLarge n) (tooLarge n) (or-false (tooLarge n || tooLarge n) (tooLarge (needed r)) (a .clear 6 (lit≤ tt)) .0) .0;
           all = result-length a ∙ count;
-          values = values' ∙ p .admitted .values ∙ count;
+          values = values' ∙ p .values ∙ count;
           codes = codes' ∙ p .codes ∙ count;
           fill = ap wildFill (constant ∙ sym (a .constant)) ∙ values .0;
           tame = again-tame;
@@ -92,7 +93,7 @@ module _ {r : Request} {input output : List Float} {coverage : List ℕ} {work :
 
 pub shift-back :
     (r : Request) (input output : List Float) (coverage : List ℕ) (work : List Float) (fill : Float) (s : ℕ → ℤ) → r .mode ≡ Constant fill → r .order ≤ 1 → Whole r s → F64s input → T (fits binary64 fill) →
-    ((n : ℕ) → n ≤ 8 → holds (shiftChecks r input (length output) (length coverage) (length work)) n ≡ false) →
+    ((n : ℕ) → n ≤ 8 → holds (shiftChecks Volume r input (length output) (length coverage) (length work)) n ≡ false) →
     (back : Request) (output' : List Float) (coverage' : List ℕ) (work' : List Float) → back .dims ≡ r .dims → back .mode ≡ Constant fill → back .order ≤ 1 → Whole back (λ i. negℤ (s i)) →
     length output' ≡ length output → length coverage' ≡ length coverage →
     let there = shiftCall r input output coverage work in let again = shiftCall back (there .output) output' coverage' work' in

@@ -129,7 +129,7 @@ module _ (r : Request) (input output : List Float) (coverage : List ℕ) (work :
   pub shift-counts : numberIn (shifted .answer) ≡ 0 → Moved (r .dims) s fill input (shifted .output) (shifted .coverage) → countsIn (shifted .answer) ≡ record { computed = inside; filled = length output - inside; defaulted = 0; folded = 0 }
   shift-counts done moved =
       let c = counted shifting r input output coverage work done in
-      let count = succeeds r input output coverage work shifting done .passes .admitted .values in
+      let count = succeeds r input output coverage work shifting done .passes .values in
       let h = shift-stays (r .dims) s fill input (shifted .output) (shifted .coverage) moved (c .codes ∙ count) in
       let computed : countsIn (shifted .answer) .computed ≡ inside = omega (arith, c .each .computed, h .computed) in
       let filled : countsIn (shifted .answer) .filled ≡ length output - inside = omega (arith, c .each .filled, h .computed, h .rest, count) in

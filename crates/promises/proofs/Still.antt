@@ -11,6 +11,7 @@ use Rattle.exact.specs.Whole.{Is}
 use Rattle.exact.specs.Same.{Same}
 use Rattle.border.specs.declared.BorderMode.the-variants.{Constant}
 use Rattle.request.specs.declared.Request.{Request}
+use Rattle.refusal.specs.declared.Asked.the-variants.{Volume}
 use Rattle.refusal.specs.Refusals.{shiftChecks}
 use Rattle.resample.specs.Call.{numberIn, shiftCall}
 use Rattle.promises.specs.Given.{holds}
@@ -20,7 +21,7 @@ use Rattle.promises.proofs.Moving.{whole-shift-moves}
 
 pub shift-by-nothing :
     (r : Request) (input output : List Float) (coverage : List ℕ) (work : List Float) (fill : Float) → r .mode ≡ Constant fill → r .order ≤ 1 → ((i : ℕ) → i < 3 → Is (getD (r .factors) i nan) (pos 0)) → F64s input →
-    ((n : ℕ) → n ≤ 8 → holds (shiftChecks r input (length output) (length coverage) (length work)) n ≡ false) →
+    ((n : ℕ) → n ≤ 8 → holds (shiftChecks Volume r input (length output) (length coverage) (length work)) n ≡ false) →
     (numberIn (shiftCall r input output coverage work .answer) ≡ 0)
     × ((i j k : ℕ) → Inside (r .dims) i j k → Same (voxel (r .dims) (shiftCall r input output coverage work .output) i j k) (voxel (r .dims) input i j k) × (code (r .dims) (shiftCall r input output coverage work .coverage) i j k ≡ 0))
 shift-by-nothing r input output coverage work fill constant low nothing f64 clear =

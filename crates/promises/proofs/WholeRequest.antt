@@ -26,6 +26,7 @@ use Rattle.request.specs.declared.Request.{Request}
 use Rattle.request.specs.Sizes.{padding, sourceDims}
 use Rattle.request.specs.Bookkeeping.{Lengths}
 use Rattle.request.specs.Conditions.{wild, wildFill, someWild, besideAny}
+use Rattle.refusal.specs.declared.Asked.the-variants.{Volume}
 use Rattle.refusal.specs.Refusals.{shiftChecks}
 use Rattle.request.proofs.Requests.{not-both, good-lengths}
 use Rattle.resample.specs.Call.{numberIn, sourceOf, coefficients, shiftCall}
@@ -44,7 +45,7 @@ pub record Asked (r : Request) (input output : List Float) (coverage : List ℕ)
   pub low : r .order ≤ 1
   pub whole : Whole r s
   pub f64 : F64s input
-  pub clear : (n : ℕ) → n ≤ 8 → holds (shiftChecks r input (length output) (length coverage) (length work)) n ≡ false
+  pub clear : (n : ℕ) → n ≤ 8 → holds (shiftChecks Volume r input (length output) (length coverage) (length work)) n ≡ false
 
 abbrev pub dim : Request → ℕ → ℕ
 dim r c = getD (r .dims) c 0

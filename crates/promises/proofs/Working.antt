@@ -16,7 +16,8 @@ use Rattle.prefilter.specs.Volume.{filterVolume, countOf}
 use Rattle.request.specs.declared.Request.{Request}
 use Rattle.request.specs.Sizes.{filters, padding, sourceDims, needed}
 use Rattle.resample.specs.Call.{Call, sourceOf, coefficients, workAfter, numberIn}
-use Rattle.resample.proofs.Preparing.{plain-count, source-plain, padded-count, source-padded, filtered, needed-all, work-begins, work-stays}
+use Rattle.request.proofs.Requests.{plain-count, needed-all}
+use Rattle.resample.proofs.Preparing.{source-plain, padded-count, source-padded, filtered, work-begins, work-stays}
 use Rattle.promises.specs.Entries.{Entry, call}
 use Rattle.promises.specs.Work.{WorkFiltered}
 use Rattle.promises.proofs.Succeeding.{succeeds}

@@ -4,6 +4,8 @@ pub mod Given
 pub mod Limits
 pub mod Place
 pub mod Work
+pub mod Alone
+pub mod OnPaper
 pub mod Marks
 pub mod Moves
 pub mod Folds

@@ -8,7 +8,7 @@ use Rattle.border.specs.declared.BorderMode.the-variants.{Constant, Mirror, Nea
 use Rattle.axis.specs.Coordinate.{shiftAxis}
 use Rattle.axis.specs.Length.{outputLength}
 use Rattle.axis.specs.Point.{someBeside}
-use Rattle.request.specs.Conditions.{badOrder, badFilterOrder, badAxisNumber, badLength, badShift, badZoom, tooLarge, wrong, tooShort, wild, wildFill}
+use Rattle.request.specs.Conditions.{badOrder, badFilterOrder, badAxisNumber, badLength, badShift, badZoom, tooLarge, wrong, tooShort, wild, wildFill, badIndex}
 
 -- what a test says, and whether it is to refuse
 pub data Side : Type 0 where
@@ -54,4 +54,6 @@ sides =
     ∷ refused (wild nan) ∷ refused (wild (inf false)) ∷ refused (wild (inf true)) ∷ refused (wildFill (Constant nan)) ∷ taken (wildFill Mirror) ∷ taken (wildFill Nearest) ∷ taken (wildFill Reflect) ∷ taken (wildFill Wrap) ∷ taken (wildFill Replicate)
     -- 9
     ∷ refused (someBeside (Constant (num 0)) (shiftAxis 4 (neg half) 0)) ∷ taken (someBeside (Constant (num 0)) (shiftAxis 4 half 0)) ∷ taken (someBeside (Constant (num 0)) (shiftAxis 4 (neg (num 1)) 0)) ∷ refused (someBeside Nearest (shiftAxis 4 (neg half) 0)) ∷ taken (someBeside Replicate (shiftAxis 4 (neg half) 0))
+    -- 11
+    ∷ taken (badIndex 4 0) ∷ taken (badIndex 4 3) ∷ refused (badIndex 4 4)
     ∷ []
