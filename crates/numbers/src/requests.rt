@@ -10,7 +10,7 @@ pub fn is_mode(mode: u32) -> bool
     mode < 6
 }
 
-fn mode_of(mode: u32, fill: f64) -> BorderMode
+pub fn mode_of(mode: u32, fill: f64) -> BorderMode
     ensures { λ r. ⌜ r ≡ modeOf mode fill ⌝ }
 {
     match mode {

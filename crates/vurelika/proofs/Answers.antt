@@ -1,30 +1,39 @@
--- What the door can answer, and what it then leaves: theorems about its definitions, for shift and zoom alike and for the two filters.
+-- What the door can answer, and what it then leaves: theorems about its definitions, for shift and zoom alike, for the two filters, for one voxel, for the record of one axis.
 use Prim.Native.Nat.{ℕ, _≤_}
 use mathlib.Core.Path.{_≡_, refl, sym, ap, _∙_, subst}
-use mathlib.Core.Bool.{Bool, true, false, cond}
+use mathlib.Core.Bool.{Bool, true, false, not, _||_, cond}
 use mathlib.Core.List.{List, []}
 use mathlib.Core.Logic.{_⊎_, inl, inr}
 use lib.Dec.{eqb, leb, lit≤}
 use lib.ListN.{length}
 use lib.Ieee.{Float}
 use borrow.Author.Tests.{ne-eqb, leb-true}
+use Rattle.exact.specs.Rounded.{num}
+use Rattle.border.specs.declared.BorderMode.{BorderMode}
+use Rattle.border.specs.declared.BorderMode.the-variants.{Constant}
+use Rattle.axis.specs.declared.coordinate.Axis.{Axis}
 use Rattle.request.specs.declared.Axes.{Axes}
 use Rattle.request.specs.declared.Request.{Request}
+use Rattle.refusal.specs.declared.Asked.the-variants.{Volume}
 use Rattle.refusal.specs.declared.Refusal.{Refusal}
-use Rattle.refusal.specs.declared.Refusal.the-variants.{NotNpy, Order, AxisNumber, Length, Factor, OutputLength, Count, Buffer, Value, Beside}
+use Rattle.refusal.specs.declared.Refusal.the-variants.{NotNpy, Order, AxisNumber, Length, Factor, OutputLength, Count, Buffer, Value, Beside, Index}
 use Rattle.refusal.specs.declared.Verdict.{Verdict}
 use Rattle.refusal.specs.declared.Verdict.the-variants.{Passed, Refused}
-use Rattle.refusal.specs.Refusals.{numberOf, first, shiftChecks, zoomChecks, splineFilterChecks, splineFilter1dChecks, numberBy}
+use Rattle.refusal.specs.Refusals.{Check, numberOf, first, shiftChecks, zoomChecks, shiftVoxelChecks, zoomVoxelChecks, shiftPointChecks, zoomPointChecks, splineFilterChecks, splineFilter1dChecks, numberBy}
 use Rattle.refusal.proofs.Firsts.{found-among}
 use Rattle.request.specs.Sizes.{shiftAxes, zoomAxes}
 use Rattle.coverage.specs.Coverage.{none}
 use Rattle.resample.specs.declared.Answer.{Answer}
 use Rattle.resample.specs.declared.Answer.the-variants as answer
 use Rattle.resample.specs.Call.{Call, FilterCall, callOf, callBy, numberIn, shiftCall, zoomCall, filterCallBy, splineFilterCall, splineFilter1dCall}
+use Rattle.one_voxel.specs.declared.Voxel.{Voxel}
+use Rattle.one_voxel.specs.Call.{VoxelCall, voxelCallBy, shiftVoxelCall, zoomVoxelCall}
+use Rattle.one_voxel.specs.Points.{pointCallBy, shiftPointCall, zoomPointCall}
+use Rattle.one_voxel.proofs.Points.{shift-any-fill, zoom-any-fill}
 use Rattle.npy.specs.File.{dimsOf, voxelsOf, written}
 use Rattle.npy.specs.Call.{npyCallBy, dimsChecks, readChecks, writeChecks, dimsCall, readCall, writeCall}
-use Rattle.numbers.specs.Numbers.{isMode, places, tally, cleared}
-use Rattle.vurelika.specs.Door.{unknownMode, Entry, Door, doorOf, answered, doorBy, filterDoorOf, filterDoorBy, npyDoor}
+use Rattle.numbers.specs.Numbers.{isMode, modeOf, places, tally, cleared}
+use Rattle.vurelika.specs.Door.{unknownMode, Entry, Door, doorOf, answered, doorBy, filterDoorOf, filterDoorBy, VoxelDoor, voxelDoorOf, voxelDoorBy, PointDoor, Pointing, shiftPointing, zoomPointing, pointDoorOf, pointDoorBy, npyDoor}
 use Rattle.vurelika.proofs.Empty.{inPlace, EmptyRefused, empty-refused-shift, empty-refused-zoom}
 use Rattle.vurelika.proofs.Doors.{unknown, filter-unknown}
 
@@ -41,6 +50,7 @@ numbered Count = lit≤ tt
 numbered Buffer = lit≤ tt
 numbered Value = lit≤ tt
 numbered Beside = lit≤ tt
+numbered Index = lit≤ tt
 
 -- one of document 01's nine
 abbrev nine : Refusal → Bool
@@ -69,11 +79,11 @@ pub record Sound (entry : Entry) : Type 0 where
 
 pub shift-sound : Sound shiftCall
 unfolding shiftCall
-shift-sound = record { empty = empty-refused-shift; leaves = λ r input output coverage work. let l = shiftChecks r input (length output) (length coverage) (length work) in call-leaves (first l) (found-among nine l refl) r (shiftAxes r) input output coverage work }
+shift-sound = record { empty = empty-refused-shift; leaves = λ r input output coverage work. let l = shiftChecks Volume r input (length output) (length coverage) (length work) in call-leaves (first l) (found-among nine l refl) r (shiftAxes r) input output coverage work }
 
 pub zoom-sound : Sound zoomCall
 unfolding zoomCall
-zoom-sound = record { empty = empty-refused-zoom; leaves = λ r input output coverage work. let l = zoomChecks r input (length output) (length coverage) (length work) in call-leaves (first l) (found-among nine l refl) r (zoomAxes r) input output coverage work }
+zoom-sound = record { empty = empty-refused-zoom; leaves = λ r input output coverage work. let l = zoomChecks Volume r input (length output) (length coverage) (length work) in call-leaves (first l) (found-among nine l refl) r (zoomAxes r) input output coverage work }
 
 -- one of the refusals 1 to 7, in its place before what `answer` would be, and every buffer as it was lent
 pub record CountsRefused (door : Door) (answer : Answer) (output : List Float) (coverage : List ℕ) (work : List Float) (counts : List ℕ) : Type 0 where
@@ -156,6 +166,121 @@ module _ (mode : ℕ) (r : Request) (input output : List Float) where
 
 pub filter-unknown-mode : (mode : ℕ) (call : FilterCall) (output : List Float) → isMode mode ≡ false → filterDoorBy mode call output ≡ filterDoorOf unknownMode output
 filter-unknown-mode mode call output e = sym (filter-unknown mode call output e)
+
+-- ---- one voxel
+-- the nine, or 11
+abbrev nineOr11 : Refusal → Bool
+nineOr11 why = nine why || eqb (numberOf why) 11
+
+module _ (mode : ℕ) (v : Verdict) (made : Voxel) (value : List Float) (code : List ℕ) where
+  abbrev voxelDoor : VoxelDoor
+  voxelDoor = voxelDoorBy mode (voxelCallBy v made value code) value code
+
+  -- any answer but 0 leaves both places
+  voxel-leaves : (voxelDoor .status ≡ 0 → ⊥) → voxelDoor ≡ voxelDoorOf (voxelDoor .status) value code
+  unfolding voxelDoorBy
+  voxel-leaves = go (isMode mode) v
+    where
+      go : (known : Bool) (v : Verdict) → let call = voxelCallBy v made value code in let door = cond known (voxelDoorOf (numberBy (call .answer)) (call .value) (call .code)) (voxelDoorOf unknownMode value code) in (door .status ≡ 0 → ⊥) → door ≡ voxelDoorOf (door .status) value code
+      go true Passed refused = absurd (refused refl)
+      go true (Refused why) refused = refl
+      go false v refused = refl
+
+  -- no answer but 255 lies outside 0 to 9 and 11
+  voxel-range : ((why : Refusal) → v ≡ Refused why → nineOr11 why ≡ true) → (voxelDoor .status ≡ unknownMode) ⊎ ((leb (voxelDoor .status) 9 || eqb (voxelDoor .status) 11) ≡ true)
+  unfolding voxelDoorBy
+  voxel-range h = go (isMode mode) v h
+    where
+      go : (known : Bool) (v : Verdict) → ((why : Refusal) → v ≡ Refused why → nineOr11 why ≡ true) → let call = voxelCallBy v made value code in let door = cond known (voxelDoorOf (numberBy (call .answer)) (call .value) (call .code)) (voxelDoorOf unknownMode value code) in (door .status ≡ unknownMode) ⊎ ((leb (door .status) 9 || eqb (door .status) 11) ≡ true)
+      go true Passed h = inr refl
+      go true (Refused why) h = inr (h why refl)
+      go false v h = inl refl
+
+-- of both entries
+pub record VoxelSound (entry : Request → List Float → List Float → List ℕ → List Float → List ℕ → VoxelCall) : Type 0 where
+  pub leaves : (mode : ℕ) (r : Request) (input work : List Float) (at : List ℕ) (value : List Float) (code : List ℕ) → let door = voxelDoorBy mode (entry r input work at value code) value code in (door .status ≡ 0 → ⊥) → door ≡ voxelDoorOf (door .status) value code
+  pub range : (mode : ℕ) (r : Request) (input work : List Float) (at : List ℕ) (value : List Float) (code : List ℕ) → let door = voxelDoorBy mode (entry r input work at value code) value code in (door .status ≡ unknownMode) ⊎ ((leb (door .status) 9 || eqb (door .status) 11) ≡ true)
+
+pub shift-voxel-sound : VoxelSound shiftVoxelCall
+unfolding shiftVoxelCall
+shift-voxel-sound = record {
+  leaves = λ mode r input work at value code. voxel-leaves mode (first (shiftVoxelChecks r input (length value) (length code) (length work) at)) _ value code;
+  range = λ mode r input work at value code. let l = shiftVoxelChecks r input (length value) (length code) (length work) at in voxel-range mode (first l) _ value code (found-among nineOr11 l refl);
+}
+
+pub zoom-voxel-sound : VoxelSound zoomVoxelCall
+unfolding zoomVoxelCall
+zoom-voxel-sound = record {
+  leaves = λ mode r input work at value code. voxel-leaves mode (first (zoomVoxelChecks r input (length value) (length code) (length work) at)) _ value code;
+  range = λ mode r input work at value code. let l = zoomVoxelChecks r input (length value) (length code) (length work) at in voxel-range mode (first l) _ value code (found-among nineOr11 l refl);
+}
+
+-- ---- the record of one axis
+module _ (v : Verdict) (order prefilter mode : ℕ) (a : Axis) (i : ℕ) (coordinate : List Float) (neighbours : List ℕ) (weights : List Float) where
+  -- the door of a call that the verdict v decides
+  abbrev pointDoor : PointDoor
+  pointDoor = pointDoorBy (λ p m. pointCallBy v order m a i) prefilter mode coordinate neighbours weights
+
+  abbrev pointCases : Bool → Verdict → PointDoor
+  pointCases known v =
+      let call = pointCallBy v order (modeOf mode (num 0)) a i coordinate neighbours weights in
+      cond known (pointDoorOf (numberBy (call .answer)) (call .coordinate) (call .at) (call .weight)) (pointDoorOf unknownMode coordinate neighbours weights)
+
+  point-leaves : (pointDoor .status ≡ 0 → ⊥) → pointDoor ≡ pointDoorOf (pointDoor .status) coordinate neighbours weights
+  unfolding pointDoorBy
+  point-leaves = go (isMode mode) v
+    where
+      go : (known : Bool) (v : Verdict) → (pointCases known v .status ≡ 0 → ⊥) → pointCases known v ≡ pointDoorOf (pointCases known v .status) coordinate neighbours weights
+      go true Passed refused = absurd (refused refl)
+      go true (Refused why) refused = refl
+      go false v refused = refl
+
+  point-range : ((why : Refusal) → v ≡ Refused why → nineOr11 why ≡ true) → (pointDoor .status ≡ unknownMode) ⊎ ((leb (pointDoor .status) 9 || eqb (pointDoor .status) 11) ≡ true)
+  unfolding pointDoorBy
+  point-range h = go (isMode mode) v h
+    where
+      go : (known : Bool) (v : Verdict) → ((why : Refusal) → v ≡ Refused why → nineOr11 why ≡ true) → (pointCases known v .status ≡ unknownMode) ⊎ ((leb (pointCases known v .status) 9 || eqb (pointCases known v .status) 11) ≡ true)
+      go true Passed h = inr refl
+      go true (Refused why) h = inr (h why refl)
+      go false v h = inl refl
+
+-- a mode with any fill is as good as the one with 0 that the door asks for
+by-number : {A : Type 0} (f : BorderMode → A) (mode : ℕ) (fill : Float) → f (Constant (num 0)) ≡ f (Constant fill) → f (modeOf mode (num 0)) ≡ f (modeOf mode fill)
+unfolding modeOf
+by-number f mode fill h = go (eqb mode 0) _
+  where
+    go : (constant : Bool) (other : BorderMode) → f (cond constant (Constant (num 0)) other) ≡ f (cond constant (Constant fill) other)
+    go true other = h
+    go false other = refl
+
+-- of both entries: any answer but 0 leaves the three buffers, no answer but 255 lies outside 0 to 9 and 11, and no fill would alter anything
+pub record PointSound (entry : Pointing) : Type 0 where
+  pub leaves : (prefilter mode : ℕ) (coordinate : List Float) (neighbours : List ℕ) (weights : List Float) → let door = pointDoorBy entry prefilter mode coordinate neighbours weights in (door .status ≡ 0 → ⊥) → door ≡ pointDoorOf (door .status) coordinate neighbours weights
+  pub range : (prefilter mode : ℕ) (coordinate : List Float) (neighbours : List ℕ) (weights : List Float) → let door = pointDoorBy entry prefilter mode coordinate neighbours weights in (door .status ≡ unknownMode) ⊎ ((leb (door .status) 9 || eqb (door .status) 11) ≡ true)
+  pub any-fill : (prefilter : Bool) (mode : ℕ) (fill : Float) (coordinate : List Float) (neighbours : List ℕ) (weights : List Float) → entry prefilter (modeOf mode (num 0)) coordinate neighbours weights ≡ entry prefilter (modeOf mode fill) coordinate neighbours weights
+
+module _ (n : ℕ) (factor : Float) (order i : ℕ) where
+  abbrev shiftTests : ℕ → ℕ → List Float → List ℕ → List Float → List Check
+  shiftTests prefilter mode coordinate neighbours weights = shiftPointChecks n factor order (not (eqb prefilter 0)) (modeOf mode (num 0)) i (length coordinate) (length neighbours) (length weights)
+
+  abbrev zoomTests : ℕ → ℕ → List Float → List ℕ → List Float → List Check
+  zoomTests prefilter mode coordinate neighbours weights = zoomPointChecks n factor order (not (eqb prefilter 0)) (modeOf mode (num 0)) i (length coordinate) (length neighbours) (length weights)
+
+  pub shift-point-sound : PointSound (shiftPointing n factor order i)
+  unfolding shiftPointCall pointDoorBy
+  shift-point-sound = record {
+    leaves = λ prefilter mode coordinate neighbours weights. point-leaves (first (shiftTests prefilter mode coordinate neighbours weights)) order prefilter mode _ i coordinate neighbours weights;
+    range = λ prefilter mode coordinate neighbours weights. let l = shiftTests prefilter mode coordinate neighbours weights in point-range (first l) order prefilter mode _ i coordinate neighbours weights (found-among nineOr11 l refl);
+    any-fill = λ prefilter mode fill coordinate neighbours weights. by-number (λ (m : BorderMode). shiftPointCall n factor order prefilter m i coordinate neighbours weights) mode fill (shift-any-fill order (num 0) fill i coordinate neighbours weights n factor prefilter);
+  }
+
+  pub zoom-point-sound : PointSound (zoomPointing n factor order i)
+  unfolding zoomPointCall pointDoorBy
+  zoom-point-sound = record {
+    leaves = λ prefilter mode coordinate neighbours weights. point-leaves (first (zoomTests prefilter mode coordinate neighbours weights)) order prefilter mode _ i coordinate neighbours weights;
+    range = λ prefilter mode coordinate neighbours weights. let l = zoomTests prefilter mode coordinate neighbours weights in point-range (first l) order prefilter mode _ i coordinate neighbours weights (found-among nineOr11 l refl);
+    any-fill = λ prefilter mode fill coordinate neighbours weights. by-number (λ (m : BorderMode). zoomPointCall n factor order prefilter m i coordinate neighbours weights) mode fill (zoom-any-fill order (num 0) fill i coordinate neighbours weights n factor prefilter);
+  }
 
 -- ---- the functions of .npy
 npy-leaves : (v : Verdict) (made held : List ℕ) → let door = npyDoor (npyCallBy v made held) in (door .status ≡ 0 → ⊥) → door .buffer ≡ held

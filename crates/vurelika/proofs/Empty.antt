@@ -12,6 +12,7 @@ use borrow.Author.Tests.{ne-eqb}
 use Rattle.prefilter.specs.Volume.{countOf}
 use Rattle.request.specs.declared.Axes.{Axes}
 use Rattle.request.specs.declared.Request.{Request}
+use Rattle.refusal.specs.declared.Asked.the-variants.{Volume}
 use Rattle.refusal.specs.declared.Refusal.{Refusal}
 use Rattle.refusal.specs.declared.Refusal.the-variants.{Buffer, Value, Beside}
 use Rattle.refusal.specs.declared.Verdict.{Verdict}
@@ -78,7 +79,7 @@ module _ (r : Request) (input : List Float) (output coverage work : ℕ) where
   abbrev badBuffer : ℕ → List ℕ → Bool
   badBuffer lent out = wrong (length input) (countOf (r .dims)) || wrong lent (countOf out) || wrong coverage (countOf out) || ltb work (needed r)
 
-  resample-early : (out : List ℕ) (a : Axes) → Lengths out → Early (resampleChecks r input 0 coverage work out a) (resampleChecks r input output coverage work out a)
+  resample-early : (out : List ℕ) (a : Axes) → Lengths out → Early (resampleChecks Volume r input 0 coverage work out a) (resampleChecks Volume r input output coverage work out a)
   resample-early out a h =
       shared (lit≤ tt) refl (λ _. record {
         why = Buffer;
@@ -87,14 +88,14 @@ module _ (r : Request) (input : List Float) (output coverage work : ℕ) where
         place = at-7 (badBuffer output out) (wildFill (r .mode) || someWild input) (besideAny r a);
       })
 
-  shift-early : Early (shiftChecks r input 0 coverage work) (shiftChecks r input output coverage work)
+  shift-early : Early (shiftChecks Volume r input 0 coverage work) (shiftChecks Volume r input output coverage work)
   shift-early =
       shared (lit≤ tt) refl (λ _.
       shared (lit≤ tt) refl (λ ok.
       shared (lit≤ tt) refl (λ _.
       resample-early (r .dims) (shiftAxes r) (good-lengths (r .dims) ok))))
 
-  zoom-early : Early (zoomChecks r input 0 coverage work) (zoomChecks r input output coverage work)
+  zoom-early : Early (zoomChecks Volume r input 0 coverage work) (zoomChecks Volume r input output coverage work)
   zoom-early =
       shared (lit≤ tt) refl (λ _.
       shared (lit≤ tt) refl (λ _.

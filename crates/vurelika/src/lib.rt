@@ -1,18 +1,24 @@
-// The door for C: the four entries, the files of NumPy, and the lengths of what a caller lends. A slice is a pointer, then a length.
+// The door for C: the four entries, one voxel of two of them, the files of NumPy, and the lengths of what a caller lends. A slice is a pointer, then a length.
 // No caller has checked anything.
 ghost use mathlib.Core.Path.{_≡_};
 ghost use mathlib.Core.List.{[], _∷_};
 ghost use Rattle.resample.specs.Call.{shiftCall, zoomCall, splineFilterCall, splineFilter1dCall};
+ghost use Rattle.one_voxel.specs.Call.{shiftVoxelCall, zoomVoxelCall};
 ghost use Rattle.npy.specs.Call.{dimsCall, readCall, sizeCall, writeCall};
 ghost use Rattle.numbers.specs.Numbers.{requestOf, plainRequestOf};
-ghost use Rattle.vurelika.specs.Door.{doorOf, doorBy, filterDoorOf, filterDoorBy, npyDoorOf, npyDoor, zoomLength, workCount};
+ghost use Rattle.vurelika.specs.Door.{doorOf, doorBy, filterDoorOf, filterDoorBy, voxelDoorOf, voxelDoorBy, shiftPointing, zoomPointing, pointDoorOf, pointDoorBy, npyDoorOf, npyDoor, zoomLength, workCount};
 use axis::coordinate::output_length;
 use numbers::reports::PLACES;
 use numbers::reports::clear;
 use numbers::reports::report;
 use numbers::requests::is_mode;
+use numbers::requests::mode_of;
 use numbers::requests::plain_request_of;
 use numbers::requests::request_of;
+use one_voxel::point::shift_point;
+use one_voxel::point::zoom_point;
+use one_voxel::shift_voxel;
+use one_voxel::zoom_voxel;
 use refusal::number_by;
 use request::conditions::bad_length;
 use request::conditions::bad_lengths;
@@ -133,6 +139,129 @@ pub extern "C" fn vurelika_spline_filter1d(
     if is_mode(mode) {
         let r = plain_request_of(d0, d1, d2, order, 0, mode, fill);
         number_by(spline_filter1d(r, axis, input, output))
+    } else {
+        UNKNOWN_MODE
+    }
+}
+
+#[no_mangle]
+pub extern "C" fn vurelika_shift_voxel(
+    d0: usize,
+    d1: usize,
+    d2: usize,
+    f0: f64,
+    f1: f64,
+    f2: f64,
+    order: usize,
+    prefilter: u32,
+    mode: u32,
+    fill: f64,
+    input: &[f64],
+    work: &[f64],
+    x: usize,
+    y: usize,
+    z: usize,
+    value: &mut [f64],
+    code: &mut [u8],
+) -> u32
+    ensures { λ status. ⌜ voxelDoorOf status (now (value .exit)) (now (code .exit)) ≡ voxelDoorBy mode (shiftVoxelCall (requestOf d0 d1 d2 f0 f1 f2 order prefilter mode fill) (now (input .entry)) (now (work .entry)) (x ∷ y ∷ z ∷ []) (now (value .entry)) (now (code .entry))) (now (value .entry)) (now (code .entry)) ⌝ }
+{
+    if is_mode(mode) {
+        let r = request_of(d0, d1, d2, f0, f1, f2, order, prefilter, mode, fill);
+        number_by(shift_voxel(r, input, work, [x, y, z], value, code))
+    } else {
+        UNKNOWN_MODE
+    }
+}
+
+#[no_mangle]
+pub extern "C" fn vurelika_zoom_voxel(
+    d0: usize,
+    d1: usize,
+    d2: usize,
+    f0: f64,
+    f1: f64,
+    f2: f64,
+    order: usize,
+    prefilter: u32,
+    mode: u32,
+    fill: f64,
+    input: &[f64],
+    work: &[f64],
+    x: usize,
+    y: usize,
+    z: usize,
+    value: &mut [f64],
+    code: &mut [u8],
+) -> u32
+    ensures { λ status. ⌜ voxelDoorOf status (now (value .exit)) (now (code .exit)) ≡ voxelDoorBy mode (zoomVoxelCall (requestOf d0 d1 d2 f0 f1 f2 order prefilter mode fill) (now (input .entry)) (now (work .entry)) (x ∷ y ∷ z ∷ []) (now (value .entry)) (now (code .entry))) (now (value .entry)) (now (code .entry)) ⌝ }
+{
+    if is_mode(mode) {
+        let r = request_of(d0, d1, d2, f0, f1, f2, order, prefilter, mode, fill);
+        number_by(zoom_voxel(r, input, work, [x, y, z], value, code))
+    } else {
+        UNKNOWN_MODE
+    }
+}
+
+// What one axis of a voxel's sum reads: for whoever checks it on paper.
+#[no_mangle]
+pub extern "C" fn vurelika_shift_point(
+    length: usize,
+    shift: f64,
+    order: usize,
+    prefilter: u32,
+    mode: u32,
+    index: usize,
+    coordinate: &mut [f64],
+    neighbours: &mut [usize],
+    weights: &mut [f64],
+) -> u32
+    ensures { λ status. ⌜ pointDoorOf status (now (coordinate .exit)) (now (neighbours .exit)) (now (weights .exit)) ≡ pointDoorBy (shiftPointing length shift order index) prefilter mode (now (coordinate .entry)) (now (neighbours .entry)) (now (weights .entry)) ⌝ }
+{
+    if is_mode(mode) {
+        number_by(shift_point(
+            length,
+            shift,
+            order,
+            prefilter != 0,
+            mode_of(mode, 0.0),
+            index,
+            coordinate,
+            neighbours,
+            weights,
+        ))
+    } else {
+        UNKNOWN_MODE
+    }
+}
+
+#[no_mangle]
+pub extern "C" fn vurelika_zoom_point(
+    length: usize,
+    factor: f64,
+    order: usize,
+    prefilter: u32,
+    mode: u32,
+    index: usize,
+    coordinate: &mut [f64],
+    neighbours: &mut [usize],
+    weights: &mut [f64],
+) -> u32
+    ensures { λ status. ⌜ pointDoorOf status (now (coordinate .exit)) (now (neighbours .exit)) (now (weights .exit)) ≡ pointDoorBy (zoomPointing length factor order index) prefilter mode (now (coordinate .entry)) (now (neighbours .entry)) (now (weights .entry)) ⌝ }
+{
+    if is_mode(mode) {
+        number_by(zoom_point(
+            length,
+            factor,
+            order,
+            prefilter != 0,
+            mode_of(mode, 0.0),
+            index,
+            coordinate,
+            neighbours,
+            weights,
+        ))
     } else {
         UNKNOWN_MODE
     }
