@@ -91,7 +91,8 @@ pub fn say_calls(words: &[u64], entry: usize, name: &[u8]) {
     say(b" calls, ");
 }
 
-fn request_at(words: &[u64], at: usize) -> Request {
+// What the call asks for.
+pub fn request_at(words: &[u64], at: usize) -> Request {
     request_of(
         whole_at(words, at, 1),
         whole_at(words, at, 2),

@@ -1,8 +1,11 @@
 // Replays the calls of the file `answers` and compares everything that the Rust answered, bit for bit.
 // Each line has an entry, how many calls are for it, how many of these ended in success and in each
-// refusal, how many numbers were compared, and how many differ.
+// refusal, how many numbers were compared, and how many differ. Two more lines have the voxels of the
+// shifts and zooms, each asked for alone.
+mod alone;
 mod compare;
 
+use alone::alone_line;
 use answer_file::load::load;
 use answer_file::print::say;
 use answer_file::print::say_compared;
@@ -104,6 +107,8 @@ fn replay_all(words: &[u64]) {
     replay_line(words, 1, b"zoom");
     replay_line(words, 2, b"spline_filter");
     let end = replay_line(words, 3, b"spline_filter1d");
+    alone_line(words, 0, b"shift_voxel");
+    alone_line(words, 1, b"zoom_voxel");
     say_end(words, end);
 }
 
