@@ -24,7 +24,7 @@
 #include <stddef.h>
 #include <stdint.h>
 
-#define VURELIKA_VERSION "0.3.0"
+#define VURELIKA_VERSION "0.4.0"
 
 #ifdef __cplusplus
 extern "C" {
@@ -62,8 +62,9 @@ enum {
     VURELIKA_COUNT = 6,         /* input, output or needed work has more than 2^27 places */
     VURELIKA_BUFFER = 7,        /* a buffer has the wrong number of places */
     VURELIKA_VALUE = 8,         /* the fill or a voxel is not finite, or its size exceeds 2^100 */
-    VURELIKA_BESIDE = 9         /* order 0: a coordinate is kept, but its nearest voxel lies outside; never
+    VURELIKA_BESIDE = 9,        /* order 0: a coordinate is kept, but its nearest voxel lies outside; never
                                    in Replicate */
+    VURELIKA_INDEX = 11         /* the output index lies outside the output */
 };
 
 /* What coverage says of a voxel, and what that means for a density.
@@ -122,6 +123,67 @@ uint32_t vurelika_zoom(size_t d0, size_t d1, size_t d2, double f0, double f1, do
                        const double *input, size_t input_len, double *output, size_t output_len,
                        uint8_t *coverage, size_t coverage_len, double *work, size_t work_len,
                        uint64_t *counts, size_t counts_len);
+
+/* One voxel of what vurelika_shift writes, worked out afresh, to recheck it where there is no room for the
+ * volume that comes out: no table, and at most about 4 kB of stack. x, y, z is its index on each axis of the
+ * output. value has exactly 1 place and takes the bits that vurelika_shift writes there, code has exactly 1
+ * place and takes its code.
+ *
+ * input and work are as with vurelika_shift, but work is only read. With prefilter not 0, orders 2 to 5 read the
+ * coefficients in work, its first vurelika_work_count places. They are to be those that vurelika_shift or
+ * vurelika_zoom leaves there: any call of either that succeeds leaves the same ones, as long as input, lengths,
+ * order, prefilter and mode are the same. Other numbers are taken too; value is then the sum over those.
+ *
+ * Refusals: those of vurelika_shift, in their order, and after them VURELIKA_INDEX, where x, y or z is at or
+ * beyond its output length. All of the input is looked at for VURELIKA_VALUE, also where work alone is read, and
+ * every index of an axis for VURELIKA_BESIDE. On any other answer than VURELIKA_DONE value and code hold what
+ * they held. */
+uint32_t vurelika_shift_voxel(size_t d0, size_t d1, size_t d2, double f0, double f1, double f2,
+                              size_t order, uint32_t prefilter, uint32_t mode, double fill,
+                              const double *input, size_t input_len, const double *work, size_t work_len,
+                              size_t x, size_t y, size_t z, double *value, size_t value_len,
+                              uint8_t *code, size_t code_len);
+
+/* The same of what vurelika_zoom writes. The output lengths are then those of vurelika_zoom_length. */
+uint32_t vurelika_zoom_voxel(size_t d0, size_t d1, size_t d2, double f0, double f1, double f2,
+                             size_t order, uint32_t prefilter, uint32_t mode, double fill,
+                             const double *input, size_t input_len, const double *work, size_t work_len,
+                             size_t x, size_t y, size_t z, double *value, size_t value_len,
+                             uint8_t *code, size_t code_len);
+
+/* How many neighbours an axis has at most: order + 1, and the order is at most 5. */
+#define VURELIKA_NEIGHBOURS 6
+
+/* What one axis of a shift gives to one output index, so that a person can check a voxel on paper: the
+ * coordinate, the neighbours and their weights. length, shift and index are those of the axis.
+ *
+ * coordinate has exactly 1 place. It takes the coordinate as it stands once the mode has folded it, on the axis
+ * as padded: where orders 2 to 5 prefilter in Nearest and Replicate, 12 edge copies stand on each side, and 12 is
+ * added. Above -1 the index is kept, else it is dropped.
+ *
+ * neighbours and weights have exactly VURELIKA_NEIGHBOURS places each, 6. Of a kept index the first order + 1 are
+ * the neighbours' indices, on the axis as padded and folded back into it, and their weights; the rest are 0 and
+ * 0.0. Of a dropped index all are 0 and 0.0.
+ *
+ * A voxel that some axis drops is the fill in Constant, and else 0.0. At order 0 the one voxel at the three
+ * neighbours is copied. Else the sum starts at 0.0 and adds
+ *
+ *     voxel * (x weight * (y weight * z weight))
+ *
+ * for all neighbours, those of axis 2 outermost and those of axis 0 innermost, each operation rounded once. The
+ * voxels are those of the input; where orders 2 to 5 prefilter, they are the coefficients in work, a volume whose
+ * axes have the input's lengths, or in Nearest and Replicate 24 more.
+ *
+ * Refusals: VURELIKA_MODE, VURELIKA_ORDER, VURELIKA_LENGTH, VURELIKA_FACTOR, VURELIKA_BUFFER, VURELIKA_BESIDE
+ * (at any index of this axis), VURELIKA_INDEX. coordinate, neighbours and weights then hold what they held. */
+uint32_t vurelika_shift_point(size_t length, double shift, size_t order, uint32_t prefilter, uint32_t mode,
+                              size_t index, double *coordinate, size_t coordinate_len,
+                              size_t *neighbours, size_t neighbours_len, double *weights, size_t weights_len);
+
+/* The same of a zoom, with VURELIKA_OUTPUT_LENGTH among the refusals, in its place. */
+uint32_t vurelika_zoom_point(size_t length, double factor, size_t order, uint32_t prefilter, uint32_t mode,
+                             size_t index, double *coordinate, size_t coordinate_len,
+                             size_t *neighbours, size_t neighbours_len, double *weights, size_t weights_len);
 
 /* The spline coefficients of a volume, along all three axes. input and output have d0 * d1 * d2 places
  * each. Never pads, in Nearest and Replicate neither. The fill is checked in mode Constant, though it is

@@ -15,24 +15,8 @@
  * --dry-run              resamples in memory, and says what would be refused or written; writes nothing
  * --force                replaces files that are there */
 #include "common/resampling.h"
-#include "vurelika.h"
-
-static size_t same_length(size_t length, double shift)
-{
-    (void)shift;
-    return length;
-}
 
 int main(int argc, char **argv)
 {
-    static const struct entry shift = {
-        .resample = vurelika_shift,
-        .length = same_length,
-        .still = 0.0,
-        .option = "--shift",
-        .factor = "shift",
-        .taken = "finite and of a size below 2^20",
-    };
-
-    return resample_file(&shift, argc, argv);
+    return resample_file(&shift_entry, argc, argv);
 }

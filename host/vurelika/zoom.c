@@ -5,18 +5,8 @@
  * --zoom X,Y,Z           the factor of each axis: a length times its factor is rounded, a half to even
  * The other options are those of shift: vurelika help shift. */
 #include "common/resampling.h"
-#include "vurelika.h"
 
 int main(int argc, char **argv)
 {
-    static const struct entry zoom = {
-        .resample = vurelika_zoom,
-        .length = vurelika_zoom_length,
-        .still = 1.0,
-        .option = "--zoom",
-        .factor = "factor",
-        .taken = "above 0 and up to 4,096",
-    };
-
-    return resample_file(&zoom, argc, argv);
+    return resample_file(&zoom_entry, argc, argv);
 }

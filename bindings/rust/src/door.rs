@@ -2,7 +2,7 @@
 
 use vurelika_sys as c;
 
-use crate::{BorderMode, Counts, Refusal, Request};
+use crate::{BorderMode, Counts, Point, Refusal, Request, Voxel};
 
 /// The functions that resample.
 #[derive(Clone, Copy)]
@@ -61,6 +61,95 @@ impl Entry {
             filled,
             defaulted,
             folded,
+        })
+    }
+
+    pub(crate) fn voxel(
+        self,
+        request: &Request,
+        input: &[f64],
+        work: &[f64],
+        [x, y, z]: [usize; 3],
+    ) -> Result<Voxel, Refusal> {
+        let function = match self {
+            Entry::Shift => c::vurelika_shift_voxel,
+            Entry::Zoom => c::vurelika_zoom_voxel,
+        };
+        let [d0, d1, d2] = request.dims;
+        let [f0, f1, f2] = request.factors;
+        let (mode, fill) = mode_and_fill(request.mode);
+        let (mut value, mut code) = ([0.0], [0]);
+        // SAFETY: as in `call`.
+        let status = unsafe {
+            function(
+                d0,
+                d1,
+                d2,
+                f0,
+                f1,
+                f2,
+                request.order,
+                request.prefilter.into(),
+                mode,
+                fill,
+                input.as_ptr(),
+                input.len(),
+                work.as_ptr(),
+                work.len(),
+                x,
+                y,
+                z,
+                value.as_mut_ptr(),
+                value.len(),
+                code.as_mut_ptr(),
+                code.len(),
+            )
+        };
+        Refusal::check(status)?;
+        let ([value], [code]) = (value, code);
+        Ok(Voxel { value, code })
+    }
+
+    pub(crate) fn point(
+        self,
+        length: usize,
+        factor: f64,
+        order: usize,
+        prefilter: bool,
+        mode: BorderMode,
+        index: usize,
+    ) -> Result<Point, Refusal> {
+        let function = match self {
+            Entry::Shift => c::vurelika_shift_point,
+            Entry::Zoom => c::vurelika_zoom_point,
+        };
+        let (mode, _) = mode_and_fill(mode);
+        let mut coordinate = [0.0];
+        let mut neighbours = [0; c::VURELIKA_NEIGHBOURS];
+        let mut weights = [0.0; c::VURELIKA_NEIGHBOURS];
+        // SAFETY: as in `call`.
+        let status = unsafe {
+            function(
+                length,
+                factor,
+                order,
+                prefilter.into(),
+                mode,
+                index,
+                coordinate.as_mut_ptr(),
+                coordinate.len(),
+                neighbours.as_mut_ptr(),
+                neighbours.len(),
+                weights.as_mut_ptr(),
+                weights.len(),
+            )
+        };
+        Refusal::check(status)?;
+        let [coordinate] = coordinate;
+        Ok(Point {
+            coordinate,
+            neighbours,
+            weights,
         })
     }
 }

@@ -232,6 +232,44 @@ pub struct Resampled {
     pub counts: Counts,
 }
 
+/// One voxel of a volume that comes out.
+#[derive(Clone, Copy, Debug, PartialEq)]
+pub struct Voxel {
+    /// Its value, with the bits that it has in the volume.
+    pub value: f64,
+    /// Its code.
+    pub code: u8,
+}
+
+/// What one axis gives to one output index.
+///
+/// A voxel that some axis drops is the fill in Constant, and else 0.0. At order 0 the one voxel at the
+/// three neighbours is copied. Else the sum starts at 0.0 and adds voxel * (x weight * (y weight * z
+/// weight)) for all neighbours, those of axis 2 outermost and those of axis 0 innermost. The voxels are
+/// those of the input; where orders 2 to 5 prefilter, they are the coefficients in work, a volume whose
+/// axes have the input's lengths, or in Nearest and Replicate 24 more.
+#[derive(Clone, Copy, Debug, PartialEq)]
+pub struct Point {
+    /// The coordinate as it stands once the mode has folded it, on the axis as padded: where orders 2 to 5
+    /// prefilter in Nearest and Replicate, 12 edge copies stand on each side, and 12 is added.
+    pub coordinate: f64,
+    /// The neighbours' indices, on the axis as padded and folded back into it. The first order + 1 count;
+    /// the rest are 0, and all are where the index is dropped.
+    pub neighbours: [usize; NEIGHBOURS],
+    /// Their weights. The rest are 0.0, and all are where the index is dropped.
+    pub weights: [f64; NEIGHBOURS],
+}
+
+impl Point {
+    /// Whether the index is kept, and not dropped: its coordinate is above -1.
+    pub fn is_kept(&self) -> bool {
+        self.coordinate > -1.0
+    }
+}
+
+/// How many neighbours an axis has at most: order + 1, and the order is at most 5.
+pub const NEIGHBOURS: usize = vurelika_sys::VURELIKA_NEIGHBOURS;
+
 /// Shifts a volume: the output voxel at index i of an axis is the input at i less the axis's factor.
 ///
 /// ```
@@ -352,6 +390,123 @@ pub fn zoom_into(
     work: &mut [f64],
 ) -> Result<Counts, Refusal> {
     Entry::Zoom.call(request, input, output, coverage, work)
+}
+
+/// One voxel of what [`shift`] gives, worked out afresh, to recheck it where there is no room for the volume
+/// that comes out. `at` is its index on each axis of the output.
+///
+/// Where orders 2 to 5 prefilter, the sum reads the coefficients in `work`, of which [`Request::shift_sizes`]
+/// says how many there are; else `work` may be empty. They are to be those that [`shift_into`] or
+/// [`zoom_into`] leaves there: any call of either that succeeds leaves the same ones, as long as the input is
+/// the same, and the request in all but its factors and its fill. Other numbers are taken too; the value is
+/// then the sum over those.
+///
+/// The refusals are those of [`shift_into`], in their order, and after them [`Refusal::Index`]. All of the
+/// input is looked at for [`Refusal::Value`], also where `work` alone is read, and every index of an axis for
+/// [`Refusal::Beside`].
+///
+/// ```
+/// # use vurelika::{shift_into, shift_voxel, BorderMode, Refusal, Request};
+/// let request = Request {
+///     dims: [2, 2, 4],
+///     factors: [0.0, 0.0, 0.5],
+///     order: 3,
+///     prefilter: true,
+///     mode: BorderMode::Nearest,
+/// };
+/// let input = [10.0, 20.0, 30.0, 40.0].repeat(4);
+/// let (mut output, mut coverage) = ([0.0; 16], [0; 16]);
+/// let mut work = vec![0.0; request.shift_sizes()?.work];
+/// shift_into(&request, &input, &mut output, &mut coverage, &mut work)?;
+///
+/// let first = shift_voxel(&request, &input, &work, [0, 0, 0])?;
+/// assert_eq!((first.value, first.code), (output[0], coverage[0]));
+/// let beyond = shift_voxel(&request, &input, &work, [0, 0, 4]);
+/// assert_eq!(beyond, Err(Refusal::Index));
+/// # Ok::<(), Refusal>(())
+/// ```
+pub fn shift_voxel(
+    request: &Request,
+    input: &[f64],
+    work: &[f64],
+    at: [usize; 3],
+) -> Result<Voxel, Refusal> {
+    Entry::Shift.voxel(request, input, work, at)
+}
+
+/// One voxel of what [`zoom`] gives; all else is as with [`shift_voxel`].
+///
+/// ```
+/// # use vurelika::{zoom_voxel, BorderMode, Request, Voxel, COMPUTED};
+/// let request = Request {
+///     dims: [2, 2, 4],
+///     factors: [1.0, 1.0, 1.75],
+///     order: 1,
+///     prefilter: false,
+///     mode: BorderMode::Mirror,
+/// };
+/// let input = [10.0, 20.0, 30.0, 40.0].repeat(4);
+/// let last = zoom_voxel(&request, &input, &[], [1, 1, 6])?;
+/// assert_eq!(last, Voxel { value: 40.0, code: COMPUTED });
+/// # Ok::<(), vurelika::Refusal>(())
+/// ```
+pub fn zoom_voxel(
+    request: &Request,
+    input: &[f64],
+    work: &[f64],
+    at: [usize; 3],
+) -> Result<Voxel, Refusal> {
+    Entry::Zoom.voxel(request, input, work, at)
+}
+
+/// What one axis of a shift gives to one output index, so that a person can check a voxel on paper. `length`,
+/// `shift` and `index` are those of the axis.
+///
+/// Refusals, in this order: [`Refusal::Order`], [`Refusal::Length`], [`Refusal::Factor`],
+/// [`Refusal::Beside`] (at any index of this axis), [`Refusal::Index`].
+///
+/// ```
+/// # use vurelika::{shift_point, BorderMode, Refusal};
+/// let at = |index| shift_point(4, -0.5, 1, false, BorderMode::Constant(-1.0), index);
+/// let last = at(3)?;
+/// assert_eq!(last.coordinate, 3.5);
+/// assert!(last.is_kept());
+/// assert_eq!(last.neighbours[..2], [3, 2]); // voxel 4 lies outside: it is mirrored
+/// assert_eq!(last.weights[..2], [0.5, 0.5]);
+/// assert_eq!(at(4), Err(Refusal::Index));
+/// # Ok::<(), Refusal>(())
+/// ```
+pub fn shift_point(
+    length: usize,
+    shift: f64,
+    order: usize,
+    prefilter: bool,
+    mode: BorderMode,
+    index: usize,
+) -> Result<Point, Refusal> {
+    Entry::Shift.point(length, shift, order, prefilter, mode, index)
+}
+
+/// What one axis of a zoom gives to one output index; all else is as with [`shift_point`], but
+/// [`Refusal::OutputLength`] is given too, after [`Refusal::Factor`].
+///
+/// ```
+/// # use vurelika::{zoom_point, BorderMode};
+/// let between = zoom_point(4, 1.75, 1, false, BorderMode::Mirror, 3)?;
+/// assert_eq!(between.coordinate, 1.5);
+/// assert_eq!(between.neighbours[..2], [1, 2]);
+/// assert_eq!(between.weights[..2], [0.5, 0.5]);
+/// # Ok::<(), vurelika::Refusal>(())
+/// ```
+pub fn zoom_point(
+    length: usize,
+    factor: f64,
+    order: usize,
+    prefilter: bool,
+    mode: BorderMode,
+    index: usize,
+) -> Result<Point, Refusal> {
+    Entry::Zoom.point(length, factor, order, prefilter, mode, index)
 }
 
 /// The spline coefficients of a volume, along all three axes. Orders 2 to 5; never pads, whatever the mode.

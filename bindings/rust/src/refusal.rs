@@ -29,11 +29,13 @@ pub enum Refusal {
     Value = 8,
     /// At order 0 a coordinate is kept, but its nearest voxel lies outside. Never in Replicate.
     Beside = 9,
+    /// The output index lies outside the output.
+    Index = 11,
 }
 
 impl Refusal {
     /// All of them, in the order in which they are looked for.
-    pub const ALL: [Refusal; 10] = [
+    pub const ALL: [Refusal; 11] = [
         Refusal::NotNpy,
         Refusal::Order,
         Refusal::Axis,
@@ -44,6 +46,7 @@ impl Refusal {
         Refusal::Buffer,
         Refusal::Value,
         Refusal::Beside,
+        Refusal::Index,
     ];
 
     /// The refusal's number, as document 01 and its change requests count them.
@@ -93,6 +96,7 @@ impl fmt::Display for Refusal {
             Refusal::Beside => {
                 "at order 0 a coordinate is kept, but its nearest voxel lies outside"
             }
+            Refusal::Index => "the output index lies outside the output",
         };
         write!(f, "refusal {}: {why}", self.number())
     }

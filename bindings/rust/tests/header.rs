@@ -1,7 +1,7 @@
 //! What the crate repeats: the names and numbers of include/vurelika.h, and the words of the launcher.
 
 use vurelika::{Refusal, COMPUTED, DEFAULTED, FILLED, FOLDED};
-use vurelika_sys::VURELIKA_CODES;
+use vurelika_sys::{VURELIKA_CODES, VURELIKA_NEIGHBOURS};
 
 const HEADER: &str = include_str!("../../../include/vurelika.h");
 const WORDS: &str = include_str!("../../../host/vurelika/common/refusal.c");
@@ -71,6 +71,7 @@ fn definitions() {
     for line in [
         format!("#define VURELIKA_VERSION \"{}\"", env!("CARGO_PKG_VERSION")),
         format!("#define VURELIKA_CODES {VURELIKA_CODES}"),
+        format!("#define VURELIKA_NEIGHBOURS {VURELIKA_NEIGHBOURS}"),
     ] {
         assert!(
             HEADER.lines().any(|l| l == line),

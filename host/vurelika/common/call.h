@@ -17,8 +17,22 @@ struct lent {
     uint64_t counts[VURELIKA_CODES];
 };
 
-/* The library's answer for a volume of these lengths. */
-uint32_t call(const struct request *r, const size_t lengths[3], struct lent *lent);
+/* What is put to the library for a volume of these lengths, and its answer. */
+typedef uint32_t asking(const struct request *r, const size_t lengths[3], struct lent *lent);
+
+/* The whole output. */
+asking call;
+
+/* One voxel of it: output and coverage have one place, work is read, and counts is left alone. */
+asking call_voxel;
+
+/* What an axis gives to the index that is asked for. */
+struct point {
+    double coordinate;
+    size_t neighbours[VURELIKA_NEIGHBOURS];
+    double weights[VURELIKA_NEIGHBOURS];
+};
+uint32_t call_point(const struct request *r, const size_t lengths[3], size_t axis, struct point *point);
 
 /* The lengths of the volume that comes out; a 0 where an axis is refused. */
 void output_lengths(const struct request *r, const size_t lengths[3], size_t out[3]);
@@ -26,7 +40,7 @@ void output_lengths(const struct request *r, const size_t lengths[3], size_t out
 /* The places of work that the request needs. */
 size_t work_of(const struct request *r, const size_t lengths[3]);
 
-/* The first axis that meets the refusal by itself. The refusal must be one that an axis meets: 4, 5 or 9. */
+/* The first axis that meets the refusal by itself. The refusal must be one that an axis meets: 4, 5, 9 or 11. */
 size_t refused_axis(const struct request *r, const size_t lengths[3], uint32_t refusal);
 
 #endif

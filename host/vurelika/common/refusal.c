@@ -27,6 +27,8 @@ const char *refusal_meaning(uint32_t number)
         return "the fill or a voxel is not finite, or its size exceeds 2^100";
     case VURELIKA_BESIDE:
         return "at order 0 a coordinate is kept, but its nearest voxel lies outside";
+    case VURELIKA_INDEX:
+        return "the output index lies outside the output";
     case VURELIKA_MODE:
         return "the mode is none of the six";
     default:

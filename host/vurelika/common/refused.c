@@ -1,5 +1,7 @@
 #include "refused.h"
 
+#include <string.h>
+
 #include "call.h"
 #include "ending.h"
 #include "number.h"
@@ -32,7 +34,7 @@ static _Noreturn void refuse_counts(const struct request *r, const size_t length
         refuse_count(r->input, voxels_of(lengths));
     output_lengths(r, lengths, out);
     if (voxels_of(out) > most)
-        refuse_count(r->output, voxels_of(out));
+        refuse_count(r->output != NULL ? r->output : "the output", voxels_of(out));
     refuse_count("the work", work_of(r, lengths));
 }
 
@@ -67,6 +69,16 @@ static _Noreturn void refuse_value(const struct request *r, const size_t lengths
            number(voxels[at]).text, taken);
 }
 
+static _Noreturn void refuse_index(const struct request *r, const size_t lengths[3])
+{
+    size_t axis = refused_axis(r, lengths, VURELIKA_INDEX), out[3];
+    const char *word = r->at_word[axis];
+
+    output_lengths(r, lengths, out);
+    refuse(VURELIKA_INDEX, "the index of axis %zu is %.*s; the output has %zu voxels there, 0 to %zu", axis,
+           (int)strcspn(word, ","), word, out[axis], out[axis] - 1);
+}
+
 void refuse_request(const struct request *r, const size_t lengths[3], const double *voxels, uint32_t refusal)
 {
     switch (refusal) {
@@ -82,6 +94,8 @@ void refuse_request(const struct request *r, const size_t lengths[3], const doub
         refuse_counts(r, lengths);
     case VURELIKA_VALUE:
         refuse_value(r, lengths, voxels);
+    case VURELIKA_INDEX:
+        refuse_index(r, lengths);
     default:
         refuse(refusal, "%s", refusal_meaning(refusal));
     }

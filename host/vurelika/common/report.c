@@ -12,6 +12,11 @@ static const char *const names[VURELIKA_CODES] = {
     [VURELIKA_FOLDED] = "folded",
 };
 
+const char *code_name(size_t code)
+{
+    return names[code];
+}
+
 static void say_file(const struct report *report, const char *path, const char *things, size_t bytes)
 {
     printf("%s %s: %zu by %zu by %zu %s, %zu bytes\n", report->request->dry_run ? "would write" : "wrote", path,
@@ -26,7 +31,7 @@ static void say_counts(const uint64_t counts[VURELIKA_CODES])
     for (size_t code = 0; code < VURELIKA_CODES; code++)
         all += counts[code];
     for (size_t code = 0; code < VURELIKA_CODES; code++)
-        printf("code %zu, %s: %" PRIu64 " voxels, %.1f %%\n", code, names[code], counts[code],
+        printf("code %zu, %s: %" PRIu64 " voxels, %.1f %%\n", code, code_name(code), counts[code],
                100.0 * (double)counts[code] / (double)all);
 }
 

@@ -1,4 +1,4 @@
-/* What a command that resamples says when it is done. */
+/* What a command that resamples says when it is done, and what a code is called. */
 #ifndef VURELIKA_REPORT_H
 #define VURELIKA_REPORT_H
 
@@ -10,6 +10,8 @@ struct report {
     size_t volume_bytes, codes_bytes, work_bytes;
     const uint64_t *counts;
 };
+
+const char *code_name(size_t code);
 
 void say_report(const struct report *report);
 

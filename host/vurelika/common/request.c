@@ -39,6 +39,12 @@ static double fill_of(const char *word)
     return fill;
 }
 
+/* What stands behind the number of an axis. */
+static char after(size_t axis)
+{
+    return axis < 2 ? ',' : '\0';
+}
+
 /* Three numbers with commas between them. */
 static void read_factors(const char *option, const char *word, double factors[3])
 {
@@ -48,9 +54,25 @@ static void read_factors(const char *option, const char *word, double factors[3]
         char *end;
 
         factors[axis] = strtod(at, &end);
-        if (end == at || *end != (axis < 2 ? ',' : '\0'))
+        if (end == at || *end != after(axis))
             fail(EX_USAGE, "%s must be three numbers as 0,-1.5,2, not '%s'", option, word);
         at = end + 1;
+    }
+}
+
+/* Three whole numbers with commas between them. Too large a one is the largest there is. */
+static void read_at(const char *word, struct request *r)
+{
+    const char *at = word;
+
+    for (size_t axis = 0; axis < 3; axis++) {
+        size_t digits = strspn(at, "0123456789");
+
+        if (digits == 0 || at[digits] != after(axis))
+            fail(EX_USAGE, "--at must be three whole numbers as 0,1,2, not '%s'", word);
+        r->at[axis] = strtoull(at, NULL, 10);
+        r->at_word[axis] = at;
+        at += digits + 1;
     }
 }
 
@@ -78,29 +100,60 @@ static void hold_paths(const struct request *r)
         fail(EX_USAGE, "the coverage %s is the output too", r->coverage);
 }
 
-struct request request_of(const struct entry *entry, int argc, char **argv)
+static void need(const char *word)
 {
-    struct words w = words_of(entry->option, argc, argv);
-
-    if (w.output == NULL || w.factors == NULL || w.order == NULL || w.mode == NULL)
+    if (word == NULL)
         fail(EX_USAGE, "a word is missing that must be given");
+}
+
+/* What every request has: the input, and how it is resampled. */
+static struct request resampling_of(const struct entry *entry, const struct words *w)
+{
+    const char *factors = entry == &zoom_entry ? w->zoom : w->shift;
+
+    need(w->input);
+    need(factors);
+    need(w->order);
+    need(w->mode);
     struct request r = {
         .entry = entry,
-        .input = w.input,
-        .output = w.output,
-        .coverage = w.coverage,
-        .order = order_of(w.order),
-        .order_word = w.order,
-        .prefilter = !w.no_prefilter,
-        .mode = mode_of(w.mode),
-        .fill = w.fill != NULL ? fill_of(w.fill) : 0.0,
-        .dry_run = w.dry_run,
-        .force = w.force,
+        .input = w->input,
+        .order = order_of(w->order),
+        .order_word = w->order,
+        .prefilter = !w->no_prefilter,
+        .mode = mode_of(w->mode),
+        .fill = w->fill != NULL ? fill_of(w->fill) : 0.0,
     };
 
-    read_factors(entry->option, w.factors, r.factors);
-    if (w.fill != NULL && r.mode != VURELIKA_CONSTANT)
-        fail(EX_USAGE, "--fill is for mode constant, not %s", w.mode);
+    read_factors(entry->option, factors, r.factors);
+    if (w->fill != NULL && r.mode != VURELIKA_CONSTANT)
+        fail(EX_USAGE, "--fill is for mode constant, not %s", w->mode);
+    return r;
+}
+
+struct request request_of(const struct entry *entry, int argc, char **argv)
+{
+    struct words w = words_of(argc, argv);
+    struct request r = resampling_of(entry, &w);
+
+    need(w.output);
+    r.output = w.output;
+    r.coverage = w.coverage;
+    r.dry_run = w.dry_run;
+    r.force = w.force;
     hold_paths(&r);
+    return r;
+}
+
+struct request voxel_request_of(int argc, char **argv)
+{
+    struct words w = words_of(argc, argv);
+
+    if ((w.shift != NULL) == (w.zoom != NULL))
+        fail(EX_USAGE, "one of --shift and --zoom must be given, not %s", w.shift != NULL ? "both" : "none");
+    struct request r = resampling_of(w.zoom != NULL ? &zoom_entry : &shift_entry, &w);
+
+    need(w.at);
+    read_at(w.at, &r);
     return r;
 }

@@ -2,21 +2,12 @@
 #ifndef VURELIKA_REQUEST_H
 #define VURELIKA_REQUEST_H
 
-#include "resampler.h"
-
-/* One of the two functions that resample, and in what they differ. */
-struct entry {
-    resampler *resample;
-    size_t (*length)(size_t length, double factor); /* of an axis that comes out; 0 where it is refused */
-    double still;       /* a factor that leaves an axis as it is */
-    const char *option; /* which has the factors */
-    const char *factor; /* what one is called */
-    const char *taken;  /* which are taken */
-};
+#include "entry.h"
 
 struct request {
     const struct entry *entry;
-    const char *input, *output;
+    const char *input;
+    const char *output;   /* NULL where one voxel is asked for */
     const char *coverage; /* NULL where the codes are not asked for */
     double factors[3];
     size_t order;
@@ -24,10 +15,15 @@ struct request {
     uint32_t prefilter, mode;
     double fill;
     int dry_run, force;
+    size_t at[3];           /* the voxel that is asked for */
+    const char *at_word[3]; /* its indices as they were given, up to a comma or the end */
 };
 
-/* The request of a command's words. The launcher has held them to the usage (host/words); what is no number,
- * no mode, or the same file twice ends the command here. */
+/* The request of a command's words, from file to file. The launcher has held them to the usage (host/words);
+ * what is no number, no mode, or the same file twice ends the command here. */
 struct request request_of(const struct entry *entry, int argc, char **argv);
+
+/* The request for one voxel, whose entry is that of the option given. */
+struct request voxel_request_of(int argc, char **argv);
 
 #endif

@@ -2,7 +2,6 @@
 
 #include <stdlib.h>
 
-#include "call.h"
 #include "codes_file.h"
 #include "ending.h"
 #include "input.h"
@@ -13,23 +12,21 @@
 #include "volume.h"
 #include "vurelika.h"
 
-/* The voxels of the input, once the request is known to be refused for none of its numbers. */
-static double *admitted_voxels(const struct request *r, size_t lengths[3])
+double *admitted_voxels(asking *ask, const struct request *r, size_t lengths[3])
 {
     struct bytes file = read_file(r->input);
     struct lent nothing = {0};
 
     read_lengths(r->input, &file, lengths);
-    uint32_t refusal = call(r, lengths, &nothing);
+    uint32_t refusal = ask(r, lengths, &nothing);
 
     if (refusal != VURELIKA_BUFFER)
         refuse_request(r, lengths, NULL, refusal);
     return read_voxels(r->input, &file, lengths);
 }
 
-/* Lends the voxels and what is written to. */
-static struct lent resample(const struct request *r, const size_t lengths[3], const size_t out[3],
-                            const double *voxels)
+struct lent resample(const struct request *r, const size_t lengths[3], const size_t out[3],
+                     const double *voxels)
 {
     size_t count = voxels_of(out), work = work_of(r, lengths);
     struct lent lent = {
@@ -78,7 +75,7 @@ int resample_file(const struct entry *entry, int argc, char **argv)
     if (r.coverage != NULL)
         expect_output(r.coverage, r.force);
 
-    double *voxels = admitted_voxels(&r, report.lengths);
+    double *voxels = admitted_voxels(call, &r, report.lengths);
 
     output_lengths(&r, report.lengths, report.out);
     struct lent lent = resample(&r, report.lengths, report.out, voxels);

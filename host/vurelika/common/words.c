@@ -5,12 +5,13 @@
 
 #define COUNT(array) (sizeof(array) / sizeof(array)[0])
 
-struct words words_of(const char *factors, int argc, char **argv)
+struct words words_of(int argc, char **argv)
 {
     struct words w = {0};
     const struct {
         const char *name, **value;
-    } options[] = {{factors, &w.factors}, {"--order", &w.order}, {"--mode", &w.mode}, {"--fill", &w.fill},
+    } options[] = {{"--shift", &w.shift}, {"--zoom", &w.zoom}, {"--at", &w.at},
+                   {"--order", &w.order}, {"--mode", &w.mode}, {"--fill", &w.fill},
                    {"--coverage", &w.coverage}};
     const struct {
         const char *name;

@@ -4,11 +4,10 @@
 
 /* Each word where it belongs; NULL and 0 where it is not given. */
 struct words {
-    const char *input, *output, *factors, *order, *mode, *fill, *coverage;
+    const char *input, *output, *shift, *zoom, *at, *order, *mode, *fill, *coverage;
     int no_prefilter, dry_run, force;
 };
 
-/* Sorts the words of a command whose factors are behind the option named. */
-struct words words_of(const char *factors, int argc, char **argv);
+struct words words_of(int argc, char **argv);
 
 #endif

@@ -3,6 +3,9 @@
 /// How many codes there are, and places of `counts`.
 pub const VURELIKA_CODES: usize = 4;
 
+/// How many neighbours an axis has at most, and places of `neighbours` and `weights`.
+pub const VURELIKA_NEIGHBOURS: usize = 6;
+
 /// Functions that take what `shift` takes.
 macro_rules! resamplers {
     ($($name:ident),*) => {
@@ -22,6 +25,43 @@ macro_rules! resamplers {
 }
 
 resamplers!(vurelika_shift, vurelika_zoom);
+
+/// Functions that take what `shift_voxel` takes.
+macro_rules! voxels {
+    ($($name:ident),*) => {
+        extern "C" {
+            $(pub fn $name(
+                d0: usize, d1: usize, d2: usize,
+                f0: f64, f1: f64, f2: f64,
+                order: usize, prefilter: u32, mode: u32, fill: f64,
+                input: *const f64, input_len: usize,
+                work: *const f64, work_len: usize,
+                x: usize, y: usize, z: usize,
+                value: *mut f64, value_len: usize,
+                code: *mut u8, code_len: usize,
+            ) -> u32;)*
+        }
+    };
+}
+
+voxels!(vurelika_shift_voxel, vurelika_zoom_voxel);
+
+/// Functions that take what `shift_point` takes.
+macro_rules! points {
+    ($($name:ident),*) => {
+        extern "C" {
+            $(pub fn $name(
+                length: usize, factor: f64,
+                order: usize, prefilter: u32, mode: u32, index: usize,
+                coordinate: *mut f64, coordinate_len: usize,
+                neighbours: *mut usize, neighbours_len: usize,
+                weights: *mut f64, weights_len: usize,
+            ) -> u32;)*
+        }
+    };
+}
+
+points!(vurelika_shift_point, vurelika_zoom_point);
 
 #[rustfmt::skip]
 extern "C" {
