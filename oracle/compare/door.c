@@ -7,16 +7,17 @@
 
 #include "vurelika.h"
 
-enum entry { SHIFT, ZOOM, SPLINE_FILTER, SPLINE_FILTER1D };
+enum function { SHIFT, ZOOM, SPLINE_FILTER, SPLINE_FILTER1D, SHIFT_VOXEL, ZOOM_VOXEL };
 enum buffer { INPUT, OUTPUT, COVERAGE, WORK, COUNTS, BUFFERS };
 
 static const size_t sizes[BUFFERS] = {8, 8, 1, 8, 8};
 
 struct request {
-    uint64_t entry, dims[3];
+    uint64_t function, dims[3];
     double factors[3];
     uint64_t order, axis, prefilter, mode;
     double fill;
+    uint64_t at[3]; /* of one voxel, whose value goes to OUTPUT and its code to COVERAGE */
     uint64_t guard, lengths[BUFFERS]; /* places around what is lent, and places lent */
 };
 
@@ -37,13 +38,19 @@ static uint32_t answer(const struct request *r, unsigned char *const whole[BUFFE
     for (int which = 0; which < BUFFERS; which++)
         lent[which] = whole[which] + r->guard * sizes[which];
 
-    switch (r->entry) {
+    switch (r->function) {
     case SHIFT:
     case ZOOM:
-        return (r->entry == SHIFT ? vurelika_shift : vurelika_zoom)(
+        return (r->function == SHIFT ? vurelika_shift : vurelika_zoom)(
             d[0], d[1], d[2], f[0], f[1], f[2], r->order, r->prefilter, r->mode, r->fill,
             lent[INPUT], n[INPUT], lent[OUTPUT], n[OUTPUT], lent[COVERAGE], n[COVERAGE],
             lent[WORK], n[WORK], lent[COUNTS], n[COUNTS]);
+    case SHIFT_VOXEL:
+    case ZOOM_VOXEL:
+        return (r->function == SHIFT_VOXEL ? vurelika_shift_voxel : vurelika_zoom_voxel)(
+            d[0], d[1], d[2], f[0], f[1], f[2], r->order, r->prefilter, r->mode, r->fill,
+            lent[INPUT], n[INPUT], lent[WORK], n[WORK], r->at[0], r->at[1], r->at[2],
+            lent[OUTPUT], n[OUTPUT], lent[COVERAGE], n[COVERAGE]);
     case SPLINE_FILTER:
         return vurelika_spline_filter(d[0], d[1], d[2], r->order, r->mode, r->fill,
                                       lent[INPUT], n[INPUT], lent[OUTPUT], n[OUTPUT]);

@@ -5,7 +5,7 @@ use std::str::FromStr;
 use ndarray_ndimage::BorderMode;
 use requests::request::{Mode, CONSTANT, MIRROR, NEAREST, REFLECT, REPLICATE, WRAP};
 
-const NAMES: [&str; 18] = [
+const NAMES: [&str; 19] = [
     "at",
     "axis",
     "base",
@@ -23,6 +23,7 @@ const NAMES: [&str; 18] = [
     "prepad",
     "shift",
     "width",
+    "work",
     "zoom",
 ];
 
@@ -57,6 +58,10 @@ impl<'a> Fields<'a> {
             Some(field) => Err(format!("field {} is not wanted here", field.name)),
             None => Ok(()),
         }
+    }
+
+    pub fn has(&self, name: &str) -> bool {
+        self.left.iter().any(|field| field.name == name)
     }
 
     /// The values of a field that must be there.

@@ -3,7 +3,8 @@
 use ndarray::{Array3, Axis};
 use ndarray_ndimage::probe::{self, Axes, Point};
 use ndarray_ndimage::{pad, spline_filter, spline_filter1d, BorderMode, PadMode};
-use requests::request::{Asked, Entry};
+use requests::document::answer_alone;
+use requests::request::{Alone, Asked, Entry, Lengths, Request};
 use requests::theirs::{self, Theirs};
 use shared::rust;
 
@@ -34,6 +35,8 @@ fn read(kind: &str, fields: &mut Fields) -> Result<Question, String> {
     match kind {
         "shift" => resample(fields, Entry::Shift),
         "zoom" => resample(fields, Entry::Zoom),
+        "shift_voxel" => one_voxel(fields, Entry::Shift),
+        "zoom_voxel" => one_voxel(fields, Entry::Zoom),
         "zoom_length" => zoom_length(fields),
         "spline_filter" => filter_all_axes(fields),
         "spline_filter1d" => filter_one_axis(fields),
@@ -65,8 +68,8 @@ fn read_volume(fields: &mut Fields) -> Result<Array3<f64>, String> {
     Ok(Array3::from_shape_vec(dims, values).expect("one value for each voxel"))
 }
 
-/// `shift` or `zoom`, with the codes that its axes' tables give.
-fn resample(fields: &mut Fields, entry: Entry) -> Result<Question, String> {
+/// What is asked of `shift` or `zoom`, and of which volume.
+fn read_asked(fields: &mut Fields, entry: Entry) -> Result<(Asked, Vec<f64>), String> {
     let (dims, input) = read_flat(fields)?;
     let (mode, fill) = fields.mode_and_fill()?;
     let asked = Asked {
@@ -79,10 +82,57 @@ fn resample(fields: &mut Fields, entry: Entry) -> Result<Question, String> {
         mode,
         fill,
     };
+    Ok((asked, input))
+}
+
+/// `shift` or `zoom`, with the codes that its axes' tables give.
+fn resample(fields: &mut Fields, entry: Entry) -> Result<Question, String> {
+    let (asked, input) = read_asked(fields, entry)?;
     Ok(Box::new(move |answer| {
         let theirs = theirs::call(&asked, &input);
         write_resampled(answer, &theirs.expect("no panic in the Rust"));
     }))
+}
+
+/// One voxel of `shift` or `zoom`: of the Rust's volume, or by its tables over the numbers of `work`; or the
+/// refusal that documents 01 and 02 give it.
+fn one_voxel(fields: &mut Fields, entry: Entry) -> Result<Question, String> {
+    let (asked, input) = read_asked(fields, entry)?;
+    let alone = Alone::at(fields.three_wholes("at")?);
+    let work = voxels::read_work(fields, asked.needed())?;
+    let lengths = Lengths {
+        output: 0,
+        coverage: 0,
+        work: asked.needed(),
+        counts: 0,
+    };
+    let request = Request {
+        asked,
+        input,
+        lengths,
+    };
+    Ok(Box::new(move |answer| {
+        match answer_alone(&request, &alone) {
+            0 => write_voxel(answer, voxel(&request, alone.at, work.as_deref())),
+            refusal => answer.word("refusal").word(refusal),
+        };
+    }))
+}
+
+fn voxel(request: &Request, at: [usize; 3], work: Option<&[f64]>) -> (f64, u8) {
+    let voxel = match work {
+        Some(work) => theirs::voxel(&request.asked, work, at),
+        None => theirs::call(&request.asked, &request.input).map(|theirs| theirs.voxel(at)),
+    };
+    voxel.expect("no panic in the Rust")
+}
+
+fn write_voxel(answer: &mut Answer, (value, code): (f64, u8)) -> &mut Answer {
+    answer
+        .word("code")
+        .word(code)
+        .word("value")
+        .floats(&[value])
 }
 
 fn write_resampled(answer: &mut Answer, theirs: &Theirs) {

@@ -6,7 +6,20 @@ use crate::fields::{floats, whole, Fields};
 
 /// Reads the field `input`, which must come to `count` numbers.
 pub fn read(fields: &mut Fields, count: usize) -> Result<Vec<f64>, String> {
-    match fields.values("input")?[..] {
+    read_field(fields, "input", count)
+}
+
+/// Reads the field `work`, if it is there.
+pub fn read_work(fields: &mut Fields, count: usize) -> Result<Option<Vec<f64>>, String> {
+    if fields.has("work") {
+        read_field(fields, "work", count).map(Some)
+    } else {
+        Ok(None)
+    }
+}
+
+fn read_field(fields: &mut Fields, name: &str, count: usize) -> Result<Vec<f64>, String> {
+    match fields.values(name)?[..] {
         ["seed", seed] => Ok(from_seed(whole(seed)?).take(count).collect()),
         ["repeat", ref lane @ ..] if !lane.is_empty() => {
             let lane = floats(lane)?;

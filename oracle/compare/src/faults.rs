@@ -1,15 +1,20 @@
 //! Faults planted in an outcome of the library, each of which must be noticed.
 
+use requests::alone::{self, Left};
+use requests::document::OUTSIDE;
 use requests::expected;
 use requests::lent::GUARD;
 use requests::outcome::Outcome;
 use requests::plan::Plan;
-use requests::request::{Asked, Entry, CONSTANT, NEAREST, REPLICATE};
+use requests::request::{Alone, Asked, Entry, CONSTANT, MIRROR, NEAREST, REPLICATE};
 use requests::spoils::sound;
+use requests::theirs;
 
-use crate::ours;
+use crate::ours::{self, Library, Linked};
 
-type Fault = (&'static str, fn(&mut Outcome));
+/// A fault in what a call left.
+type FaultIn<T> = (&'static str, fn(&mut T));
+type Fault = FaultIn<Outcome>;
 
 const IN_SUCCESS: [Fault; 11] = [
     ("a bit of a voxel", |o| o.lent.output.lent_mut()[5] ^= 1),
@@ -97,6 +102,59 @@ const IN_THREE_COUNTS: [Fault; 2] = [
     ("three counts written", |o| o.lent.counts.lent_mut().fill(0)),
 ];
 
+/// The last voxel of `kept`, asked for alone.
+const LAST: [usize; 3] = [1, 2, 3];
+
+const IN_LAST_VOXEL: [FaultIn<Left>; 6] = [
+    ("a bit of one voxel", |l| l.lent.output.lent_mut()[0] ^= 1),
+    ("the code of one voxel", |l| {
+        l.lent.coverage.lent_mut()[0] ^= 1
+    }),
+    ("the last index called outside", |l| {
+        l.lent.lend_one(&Alone::at(LAST));
+        l.status = OUTSIDE;
+    }),
+    ("one voxel of the input, not of work", sum_input),
+    ("work written for one voxel", |l| {
+        l.lent.work.lent_mut()[0] ^= 1
+    }),
+    ("a place beside one voxel", |l| {
+        l.lent.output.whole_mut()[GUARD + 1] = 0
+    }),
+];
+
+/// Where the last index is the length.
+const IN_VOXEL_OUTSIDE: [FaultIn<Left>; 4] = [
+    ("an index at the length taken", |l| {
+        l.status = 0;
+        l.lent.output.lent_mut()[0] = 0;
+        l.lent.coverage.lent_mut()[0] = 0;
+    }),
+    ("another refusal than 11", |l| l.status = 9),
+    ("a value written outside", |l| {
+        l.lent.output.lent_mut()[0] = 0
+    }),
+    ("a code written outside", |l| {
+        l.lent.coverage.lent_mut()[0] = 0
+    }),
+];
+
+/// Where the value of the last voxel has two places.
+const IN_TWO_VALUES: [FaultIn<Left>; 2] = [
+    ("two values taken", |l| l.status = 0),
+    ("one of two values written", |l| {
+        l.lent.output.lent_mut()[0] = 0
+    }),
+];
+
+/// The value that the last voxel has where input is read for coefficients.
+fn sum_input(left: &mut Left) {
+    let request = kept().request();
+    let voxel = theirs::voxel(&request.asked, &request.input, LAST);
+    let (value, _) = voxel.expect("no panic in the Rust");
+    left.lent.output.lent_mut()[0] = value.to_bits();
+}
+
 /// The first voxel that bears the code.
 fn voxel_of(outcome: &mut Outcome, code: u8) -> &mut u8 {
     let mut codes = outcome.lent.coverage.lent_mut().iter_mut();
@@ -129,6 +187,13 @@ fn of_three_codes(mode: u32) -> Plan {
     Plan::of(asked, 1)
 }
 
+/// A shift with a prefilter that drops no voxel.
+fn kept() -> Plan {
+    let mut kept = sound(Entry::Shift);
+    kept.asked.mode = MIRROR;
+    kept
+}
+
 /// How many faults were planted; or the first that was not noticed.
 pub fn all_noticed() -> Result<usize, String> {
     let mut success = sound(Entry::Shift);
@@ -151,23 +216,69 @@ pub fn all_noticed() -> Result<usize, String> {
     for (plan, answer, faults) in &planted {
         noticed(plan, *answer, faults)?;
     }
-    Ok(planted.iter().map(|(_, _, faults)| faults.len()).sum())
+    let [x, y, z] = LAST;
+    let two_values = Alone {
+        values: 2,
+        ..Alone::at(LAST)
+    };
+    let planted_alone: [(Alone, u32, &[FaultIn<Left>]); 3] = [
+        (Alone::at(LAST), 0, &IN_LAST_VOXEL),
+        (Alone::at([x, y, z + 1]), OUTSIDE, &IN_VOXEL_OUTSIDE),
+        (two_values, 7, &IN_TWO_VALUES),
+    ];
+    for (alone, answer, faults) in &planted_alone {
+        noticed_alone(alone, *answer, faults)?;
+    }
+    let counts = planted.iter().map(|(_, _, faults)| faults.len());
+    let counts_alone = planted_alone.iter().map(|(_, _, faults)| faults.len());
+    Ok(counts.chain(counts_alone).sum())
 }
 
 fn noticed(plan: &Plan, answer: u32, faults: &[Fault]) -> Result<(), String> {
     let request = plan.request();
     let expected = expected::outcome(&request)?;
     let outcome = ours::call(&request);
-    if let Some(difference) = outcome.difference(&expected) {
+    answers(outcome.status, answer)?;
+    each_noticed(&outcome, faults, |outcome| outcome.difference(&expected))
+}
+
+/// In one voxel of `kept`.
+fn noticed_alone(alone: &Alone, answer: u32, faults: &[FaultIn<Left>]) -> Result<(), String> {
+    let request = kept().request();
+    let whole = expected::outcome(&request)?;
+    let Outcome {
+        status, mut lent, ..
+    } = ours::call(&request);
+    lent.lend_one(alone);
+    let mut left = Left { status, lent };
+    let mut expected = left.clone();
+    Linked.voxel(&request.asked, alone.at, &mut left)?;
+    alone::expect(&request, alone, Some(&whole), &mut expected)?;
+    answers(left.status, answer)?;
+    each_noticed(&left, faults, |left| left.difference(&expected))
+}
+
+fn answers(status: u32, answer: u32) -> Result<(), String> {
+    if status == answer {
+        Ok(())
+    } else {
+        Err(format!("the answer is {status}, not {answer}"))
+    }
+}
+
+/// Nothing differs, and with each of the faults something does.
+fn each_noticed<T: Clone>(
+    left: &T,
+    faults: &[FaultIn<T>],
+    difference: impl Fn(&T) -> Option<String>,
+) -> Result<(), String> {
+    if let Some(difference) = difference(left) {
         return Err(difference);
     }
-    if outcome.status != answer {
-        return Err(format!("the answer is {}, not {answer}", outcome.status));
-    }
     for (name, plant) in faults {
-        let mut faulty = outcome.clone();
+        let mut faulty = left.clone();
         plant(&mut faulty);
-        if faulty.difference(&expected).is_none() {
+        if difference(&faulty).is_none() {
             return Err(format!("not noticed: {name}"));
         }
     }

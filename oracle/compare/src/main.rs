@@ -2,6 +2,7 @@
 //! buffer bit for bit (oracle/run-compare); and holds whole coordinates of both to the SciPy manual
 //! (oracle/run-whole).
 
+mod alone;
 mod drawn;
 mod faults;
 mod listed;
@@ -13,10 +14,9 @@ mod whole;
 use std::process::ExitCode;
 use std::str::FromStr;
 
+use ours::{Library, Linked};
 use requests::expected;
-use requests::outcome::Outcome;
 use requests::plan::Plan;
-use requests::request::Request;
 use shared::rust;
 use tally::Tally;
 use whole::Reach;
@@ -47,14 +47,12 @@ fn main() -> ExitCode {
 fn run(words: &[String]) -> Result<String, String> {
     let command: Vec<&str> = words.iter().map(String::as_str).collect();
     match command[..] {
-        ["linked", cases, seed] => compare(plans(cases, seed)?, |request| Ok(ours::call(request))),
+        ["linked", cases, seed] => compare(plans(cases, seed)?, &mut Linked),
         ["piped", cases, seed, _, ..] => {
             let small = |(_, plan): &(usize, Plan)| plan.places() <= SMALL;
             let some = plans(cases, seed)?.step_by(ONE_IN).filter(small);
             let mut door = piped::Door::open(&words[3..]).map_err(|error| error.to_string())?;
-            compare(some, |request| {
-                door.call(request).map_err(|error| error.to_string())
-            })
+            compare(some, &mut door)
         }
         ["whole", library, fold] => whole::sweep(Reach {
             library: number(library)?,
@@ -83,20 +81,33 @@ fn number<T: FromStr>(word: &str) -> Result<T, String> {
 /// A summary; or the first difference, with the request at which it appears.
 fn compare(
     plans: impl Iterator<Item = (usize, Plan)>,
-    mut call: impl FnMut(&Request) -> Result<Outcome, String>,
+    library: &mut impl Library,
 ) -> Result<String, String> {
     let mut tally = Tally::default();
     for (number, plan) in plans {
-        let request = plan.request();
-        let outcome = call(&request)?;
-        let difference = match expected::outcome(&request) {
-            Ok(expected) => outcome.difference(&expected),
-            Err(disagreement) => Some(disagreement),
-        };
-        if let Some(difference) = difference {
-            return Err(format!("case {number} differs: {difference}\n{request}"));
-        }
-        tally.add(&request, &outcome);
+        let compared = compare_one(&plan, number, library, &mut tally);
+        let at = |difference| format!("case {number} differs: {difference}\n{}", plan.request());
+        compared.map_err(at)?;
     }
     Ok(tally.to_string())
+}
+
+fn compare_one(
+    plan: &Plan,
+    number: usize,
+    library: &mut impl Library,
+    tally: &mut Tally,
+) -> Result<(), String> {
+    let request = plan.request();
+    let outcome = library.call(&request)?;
+    let expected = expected::outcome(&request)?;
+    if let Some(difference) = outcome.difference(&expected) {
+        return Err(difference);
+    }
+    tally.add(&request, &outcome);
+    if request.asked.entry.resamples() {
+        let seed = plan.seed ^ number as u64;
+        alone::compare(&request, outcome, &expected, seed, library, tally)?;
+    }
+    Ok(())
 }

@@ -1,9 +1,31 @@
-//! The library, linked, through its door for C.
+//! The library through its door for C: what is asked of it, and the linked one.
 
+use requests::alone::Left;
 use requests::lent::Lent;
 use requests::outcome::Outcome;
 use requests::request::{Asked, Entry, Request};
 use vurelika_sys::*;
+
+/// The library, wherever its calls are made.
+pub trait Library {
+    fn call(&mut self, request: &Request) -> Result<Outcome, String>;
+
+    /// One voxel of a shift or a zoom, asked for alone.
+    fn voxel(&mut self, asked: &Asked, at: [usize; 3], left: &mut Left) -> Result<(), String>;
+}
+
+pub struct Linked;
+
+impl Library for Linked {
+    fn call(&mut self, request: &Request) -> Result<Outcome, String> {
+        Ok(call(request))
+    }
+
+    fn voxel(&mut self, asked: &Asked, at: [usize; 3], left: &mut Left) -> Result<(), String> {
+        left.status = voxel(asked, at, &mut left.lent);
+        Ok(())
+    }
+}
 
 pub fn call(request: &Request) -> Outcome {
     let asked = &request.asked;
@@ -43,6 +65,23 @@ pub fn resample(asked: &Asked, lent: &mut Lent) -> u32 {
             d0, d1, d2, f0, f1, f2, order, prefilter, mode, fill,
             input.cast(), input_len, output.cast(), output_len, coverage, coverage_len,
             work.cast(), work_len, counts, counts_len,
+        )
+    }
+}
+
+#[rustfmt::skip]
+fn voxel(asked: &Asked, [x, y, z]: [usize; 3], lent: &mut Lent) -> u32 {
+    let function = if asked.entry == Entry::Shift { vurelika_shift_voxel } else { vurelika_zoom_voxel };
+    let &Asked { dims: [d0, d1, d2], factors: [f0, f1, f2], order, prefilter, mode, fill, .. } = asked;
+    let (input, input_len) = lent.input.parts();
+    let (work, work_len) = lent.work.parts();
+    let (value, value_len) = lent.output.parts();
+    let (code, code_len) = lent.coverage.parts();
+    // SAFETY: as above.
+    unsafe {
+        function(
+            d0, d1, d2, f0, f1, f2, order, prefilter, mode, fill,
+            input.cast(), input_len, work.cast(), work_len, x, y, z, value.cast(), value_len, code, code_len,
         )
     }
 }

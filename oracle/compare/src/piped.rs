@@ -4,9 +4,12 @@
 use std::io::{self, BufReader, BufWriter, Read, Write};
 use std::process::{Child, ChildStdin, ChildStdout, Command, Stdio};
 
+use requests::alone::Left;
 use requests::lent::{Lent, GUARD};
 use requests::outcome::Outcome;
-use requests::request::Request;
+use requests::request::{Asked, Entry, Request, ENTRIES};
+
+use crate::ours::Library;
 
 pub struct Door {
     to: BufWriter<ChildStdin>,
@@ -33,27 +36,35 @@ impl Door {
         })
     }
 
-    pub fn call(&mut self, request: &Request) -> io::Result<Outcome> {
-        let mut lent = Lent::new(request);
-        self.ask(request, &lent)?;
+    /// Makes a call of the function with this number (door.c); what it answers is left in `lent`, and these
+    /// are its numbers.
+    fn ask(
+        &mut self,
+        function: usize,
+        asked: &Asked,
+        at: [usize; 3],
+        lent: &mut Lent,
+    ) -> io::Result<[u64; 5]> {
+        self.write_request(function, asked, at, lent)?;
         self.to.flush()?;
-        let [status, z0, z1, z2, work_count] = self.numbers()?;
+        let mut numbers = [0; 5];
+        self.read_words(&mut numbers)?;
         self.read_words(lent.input.whole_mut())?;
         self.read_words(lent.output.whole_mut())?;
         self.from.read_exact(lent.coverage.whole_mut())?;
         self.read_words(lent.work.whole_mut())?;
         self.read_words(lent.counts.whole_mut())?;
-        Ok(Outcome {
-            status: status as u32,
-            zoom_lengths: [z0, z1, z2].map(|length| length as usize),
-            work_count: work_count as usize,
-            lent,
-        })
+        Ok(numbers)
     }
 
-    fn ask(&mut self, request: &Request, lent: &Lent) -> io::Result<()> {
-        let asked = &request.asked;
-        self.write_words(&[asked.entry as u64])?;
+    fn write_request(
+        &mut self,
+        function: usize,
+        asked: &Asked,
+        at: [usize; 3],
+        lent: &Lent,
+    ) -> io::Result<()> {
+        self.write_words(&[function as u64])?;
         self.write_words(&asked.dims.map(|length| length as u64))?;
         self.write_words(&asked.factors.map(f64::to_bits))?;
         self.write_words(&[
@@ -62,6 +73,9 @@ impl Door {
             asked.prefilter.into(),
             asked.mode.into(),
             asked.fill.to_bits(),
+        ])?;
+        self.write_words(&at.map(|index| index as u64))?;
+        self.write_words(&[
             GUARD as u64,
             lent.input.length() as u64,
             lent.output.length() as u64,
@@ -82,18 +96,35 @@ impl Door {
             .try_for_each(|word| self.to.write_all(&word.to_le_bytes()))
     }
 
-    fn numbers<const N: usize>(&mut self) -> io::Result<[u64; N]> {
-        let mut numbers = [0; N];
-        self.read_words(&mut numbers)?;
-        Ok(numbers)
-    }
-
     fn read_words(&mut self, words: &mut [u64]) -> io::Result<()> {
         for word in words {
             let mut bytes = [0; 8];
             self.from.read_exact(&mut bytes)?;
             *word = u64::from_le_bytes(bytes);
         }
+        Ok(())
+    }
+}
+
+impl Library for Door {
+    fn call(&mut self, request: &Request) -> Result<Outcome, String> {
+        let mut lent = Lent::new(request);
+        let asked = &request.asked;
+        let numbers = self.ask(asked.entry as usize, asked, [0; 3], &mut lent);
+        let [status, z0, z1, z2, work_count] = numbers.map_err(|error| error.to_string())?;
+        Ok(Outcome {
+            status: status as u32,
+            zoom_lengths: [z0, z1, z2].map(|length| length as usize),
+            work_count: work_count as usize,
+            lent,
+        })
+    }
+
+    fn voxel(&mut self, asked: &Asked, at: [usize; 3], left: &mut Left) -> Result<(), String> {
+        let function = ENTRIES.len() + usize::from(asked.entry == Entry::Zoom);
+        let numbers = self.ask(function, asked, at, &mut left.lent);
+        let [status, ..] = numbers.map_err(|error| error.to_string())?;
+        left.status = status as u32;
         Ok(())
     }
 }

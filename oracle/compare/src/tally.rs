@@ -2,26 +2,39 @@
 
 use std::fmt;
 
-use requests::document::{CODES, UNKNOWN_MODE};
+use requests::alone::Left;
+use requests::document::{CODES, OUTSIDE, UNKNOWN_MODE};
 use requests::outcome::Outcome;
-use requests::request::{Request, ENTRIES};
+use requests::request::{Entry, Request, ENTRIES};
 
-const ANSWERS: [u32; 11] = [0, 1, 2, 3, 4, 5, 6, 7, 8, 9, UNKNOWN_MODE];
+const ANSWERS: [u32; 12] = [0, 1, 2, 3, 4, 5, 6, 7, 8, 9, OUTSIDE, UNKNOWN_MODE];
+
+/// How many calls had each answer.
+type Answers = [usize; ANSWERS.len()];
 
 #[derive(Default)]
 pub struct Tally {
-    cases: [[usize; ANSWERS.len()]; ENTRIES.len()],
+    cases: [Answers; ENTRIES.len()],
     voxels: usize,
     codes: [u64; CODES],
     work: usize,
+    alone: Alone,
+}
+
+/// Voxels that were asked for alone, of shifts and of zooms: their answers and codes, and what they were held to.
+#[derive(Default)]
+struct Alone {
+    cases: [Answers; 2],
+    in_volume: usize,
+    by_tables: usize,
+    codes: [u64; CODES],
 }
 
 impl Tally {
     /// Counts a case whose outcome was as expected.
     pub fn add(&mut self, request: &Request, outcome: &Outcome) {
         let asked = &request.asked;
-        let answer = ANSWERS.iter().position(|n| *n == outcome.status);
-        self.cases[asked.entry as usize][answer.expect("a number of the list")] += 1;
+        count(&mut self.cases[asked.entry as usize], outcome.status);
         if outcome.status == 0 {
             self.voxels += outcome.lent.output.length();
             self.work += asked.needed();
@@ -33,9 +46,35 @@ impl Tally {
         }
     }
 
-    fn total(&self) -> usize {
-        self.cases.iter().flatten().sum()
+    /// Counts one voxel that was as expected: as in the Rust's volume, or as by its tables.
+    pub fn add_alone(&mut self, entry: Entry, left: &Left, in_volume: bool) {
+        let alone = &mut self.alone;
+        count(&mut alone.cases[entry as usize], left.status);
+        if left.status == 0 {
+            alone.codes[usize::from(left.lent.coverage.lent()[0])] += 1;
+            if in_volume {
+                alone.in_volume += 1;
+            } else {
+                alone.by_tables += 1;
+            }
+        }
     }
+}
+
+fn count(answers: &mut Answers, status: u32) {
+    let answer = ANSWERS.iter().position(|n| *n == status);
+    answers[answer.expect("a number of the list")] += 1;
+}
+
+fn total(cases: &[Answers]) -> usize {
+    cases.iter().flatten().sum()
+}
+
+/// How many there are, and of which code.
+fn of_codes(codes: &[u64; CODES]) -> String {
+    let [computed, filled, defaulted, folded] = codes;
+    let sum: u64 = codes.iter().sum();
+    format!("{sum} codes ({computed} of 0, {filled} of 1, {defaulted} of 2, {folded} of 3)")
 }
 
 impl fmt::Display for Tally {
@@ -44,20 +83,33 @@ impl fmt::Display for Tally {
         for answer in ANSWERS {
             write!(f, "{answer:>8}")?;
         }
-        for (entry, cases) in ENTRIES.iter().zip(self.cases) {
-            write!(f, "\n{:16}", entry.name())?;
-            for count in cases {
+        let entries = ENTRIES.iter().map(|entry| entry.name());
+        let rows = entries.zip(self.cases);
+        let voxel_rows = ["shift_voxel", "zoom_voxel"]
+            .into_iter()
+            .zip(self.alone.cases);
+        for (name, answers) in rows.chain(voxel_rows) {
+            write!(f, "\n{name:16}")?;
+            for count in answers {
                 write!(f, "{count:8}")?;
             }
         }
-        let [computed, filled, defaulted, folded] = self.codes;
         write!(
             f,
-            "\n{} cases: {} voxels, {} codes ({computed} of 0, {filled} of 1, {defaulted} of 2, {folded} of 3), {} places of work; 0 differ",
-            self.total(),
+            "\n{} cases: {} voxels, {}, {} places of work; 0 differ",
+            total(&self.cases),
             self.voxels,
-            self.codes.iter().sum::<u64>(),
+            of_codes(&self.codes),
             self.work
+        )?;
+        let alone = &self.alone;
+        write!(
+            f,
+            "\n{} voxels asked for alone: {} held to the Rust's volume, {} to its tables, {}; 0 differ",
+            total(&alone.cases),
+            alone.in_volume,
+            alone.by_tables,
+            of_codes(&alone.codes)
         )
     }
 }

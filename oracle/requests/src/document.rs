@@ -1,11 +1,11 @@
 //! Document 01 in plain Rust: the lengths of buffers, and the number that a request is answered
-//! with; the counts are four since document 02's #103, the modes six since #104. The fold alone is the
-//! Rust's own, as document 01 has it.
+//! with; the counts are four since document 02's #103, the modes six since #104, and one voxel may be asked
+//! for since #105. The fold alone is the Rust's own, as document 01 has it.
 
 use ndarray_ndimage::probe::map_coordinates;
 use ndarray_ndimage::BorderMode;
 
-use crate::request::{Asked, Entry, Mode, Request};
+use crate::request::{Alone, Asked, Entry, Mode, Request};
 
 /// The most places of a volume or of work.
 const MOST_PLACES: usize = 1 << 27;
@@ -17,6 +17,8 @@ pub const FARTHEST: f64 = (1 << 20) as f64;
 pub const CODES: usize = 4;
 /// The answer to a mode that is none of the six.
 pub const UNKNOWN_MODE: u32 = 255;
+/// The answer to one voxel whose index lies outside the output (document 02, #105).
+pub const OUTSIDE: u32 = 11;
 
 /// Whether a refusal applies, asked only where no earlier one does.
 type Applies = fn(&Request) -> bool;
@@ -39,6 +41,20 @@ const REFUSALS: [(u32, Applies); 10] = [
 pub fn answer(request: &Request) -> u32 {
     let refusal = REFUSALS.iter().find(|(_, applies)| applies(request));
     refusal.map_or(0, |(number, _)| *number)
+}
+
+/// The number of the answer to one voxel of the request: that of the volume's call, were its own buffers
+/// looked at; and after all of these, 11.
+pub fn answer_alone(request: &Request, alone: &Alone) -> u32 {
+    let refusal = REFUSALS.iter().find(|(number, applies)| match number {
+        7 => buffer_refused_alone(request, alone),
+        _ => applies(request),
+    });
+    match refusal {
+        Some((number, _)) => *number,
+        None if index_refused(&request.asked, alone) => OUTSIDE,
+        None => 0,
+    }
 }
 
 fn order_refused(Request { asked, .. }: &Request) -> bool {
@@ -81,6 +97,19 @@ fn buffer_refused(request: &Request) -> bool {
         || lent.output != voxels
         || asked.entry.resamples()
             && (lent.coverage != voxels || lent.work < asked.needed() || lent.counts != CODES)
+}
+
+/// Value and code have a place each; of the volume's other buffers there is work.
+fn buffer_refused_alone(request: &Request, alone: &Alone) -> bool {
+    let asked = &request.asked;
+    request.input.len() != count(asked.dims)
+        || request.lengths.work < asked.needed()
+        || (alone.values, alone.codes) != (1, 1)
+}
+
+fn index_refused(asked: &Asked, alone: &Alone) -> bool {
+    let lengths = asked.output_dims();
+    (0..3).any(|axis| alone.at[axis] >= lengths[axis])
 }
 
 fn value_refused(Request { asked, input, .. }: &Request) -> bool {
@@ -187,14 +216,26 @@ impl Asked {
         self.mode().map(Mode::rusts) == Some(BorderMode::Nearest)
     }
 
+    /// Whether `shift` and `zoom` filter the voxels first.
+    fn filters(&self) -> bool {
+        self.prefilter != 0 && self.order > 1
+    }
+
+    /// The lengths of what the sums read.
+    pub fn source_dims(&self) -> [usize; 3] {
+        if self.filters() && self.pads() {
+            self.dims.map(|length| length.saturating_add(24))
+        } else {
+            self.dims
+        }
+    }
+
     /// The places of work that `shift` and `zoom` need, were there no refusal.
     fn resampling_work(&self) -> usize {
-        if self.prefilter == 0 || self.order < 2 {
-            0
-        } else if self.pads() {
-            count(self.dims.map(|length| length.saturating_add(24)))
+        if self.filters() {
+            count(self.source_dims())
         } else {
-            count(self.dims)
+            0
         }
     }
 

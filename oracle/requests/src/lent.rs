@@ -1,9 +1,10 @@
 //! The buffers that the library is lent, each from the middle of a larger one: what stands around
 //! it is watched. Floats are kept as their bits.
 
+use std::fmt::LowerHex;
 use std::ptr::null_mut;
 
-use crate::request::Request;
+use crate::request::{Alone, Request};
 
 /// Places before and after what is lent.
 pub const GUARD: usize = 8;
@@ -64,7 +65,6 @@ impl Lent {
     /// no count is so large, and no code is above 3. They differ from buffer to buffer, so that a
     /// guard copied to a guard would show.
     pub fn new(request: &Request) -> Lent {
-        let floats = |tag: u64| move |place: usize| (0x7ffc + tag) << 48 | place as u64;
         let mut input = Buffer::marked(request.input.len(), floats(1));
         for (place, voxel) in input.lent_mut().iter_mut().zip(&request.input) {
             *place = voxel.to_bits();
@@ -73,9 +73,45 @@ impl Lent {
         Lent {
             input,
             output: Buffer::marked(lengths.output, floats(2)),
-            coverage: Buffer::marked(lengths.coverage, |place| 0x80 | place as u8),
+            coverage: Buffer::marked(lengths.coverage, code),
             work: Buffer::marked(lengths.work, floats(3)),
             counts: Buffer::marked(lengths.counts, |place| u64::MAX - place as u64),
         }
     }
+
+    /// For one voxel asked for alone: input and work stay as they are, output is to take its value and
+    /// coverage its code. No counts are lent.
+    pub fn lend_one(&mut self, alone: &Alone) {
+        self.output = Buffer::marked(alone.values, floats(2));
+        self.coverage = Buffer::marked(alone.codes, code);
+    }
+
+    /// The first place that differs from what is expected, in words.
+    pub fn difference(&self, expected: &Lent) -> Option<String> {
+        place("input", self.input.whole(), expected.input.whole())
+            .or_else(|| place("output", self.output.whole(), expected.output.whole()))
+            .or_else(|| place("coverage", self.coverage.whole(), expected.coverage.whole()))
+            .or_else(|| place("work", self.work.whole(), expected.work.whole()))
+            .or_else(|| place("counts", self.counts.whole(), expected.counts.whole()))
+    }
+}
+
+/// The marks of a buffer of floats.
+fn floats(tag: u64) -> impl Fn(usize) -> u64 {
+    move |place| (0x7ffc + tag) << 48 | place as u64
+}
+
+/// The marks of a buffer of codes.
+fn code(place: usize) -> u8 {
+    0x80 | place as u8
+}
+
+/// Places are counted from the first that is lent: a guard before it has a negative number.
+fn place<T: PartialEq + LowerHex>(name: &str, ours: &[T], expected: &[T]) -> Option<String> {
+    let at = ours.iter().zip(expected).position(|(o, e)| o != e)?;
+    let (o, e) = (&ours[at], &expected[at]);
+    let from_lent = at as isize - GUARD as isize;
+    Some(format!(
+        "{name} has {o:#x} at place {from_lent}, expected {e:#x}"
+    ))
 }

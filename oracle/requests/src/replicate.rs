@@ -65,8 +65,22 @@ pub fn call(asked: &Asked, input: &[f64]) -> Option<Theirs> {
     })
 }
 
+/// One voxel over any coefficients; `None` where the Rust panics and should not.
+pub fn voxel(asked: &Asked, source: &[f64], at: [usize; 3]) -> Option<(f64, u8)> {
+    let places = [0, 1, 2].map(|axis| place(asked, axis, at[axis]));
+    let nearest = in_nearest(asked, places.map(|place| place.still));
+    match theirs::voxel(&nearest, source, places.map(|place| place.index)) {
+        None if asked.order == 0 => Some((copied(asked, source, at), 0)),
+        voxel => voxel,
+    }
+}
+
 /// The Rust's answer in Nearest, with some axes left still.
 fn nearest(asked: &Asked, still: [bool; 3], input: &[f64]) -> Option<Theirs> {
+    theirs::call(&in_nearest(asked, still), input)
+}
+
+fn in_nearest(asked: &Asked, still: [bool; 3]) -> Asked {
     let unmoved = match asked.entry {
         Entry::Zoom => 1.0,
         _ => 0.0,
@@ -80,7 +94,7 @@ fn nearest(asked: &Asked, still: [bool; 3], input: &[f64]) -> Option<Theirs> {
             *factor = unmoved;
         }
     }
-    theirs::call(&asked, input)
+    asked
 }
 
 /// At order 0 the Rust panics wherever some coordinate of Nearest rounds outside (refusal 9), also if that

@@ -111,6 +111,26 @@ pub struct Request {
     pub lengths: Lengths,
 }
 
+/// One voxel of a request, asked for alone (document 02, #105): its index, and how many places its value and
+/// its code are lent.
+#[derive(Clone, Copy, Debug, PartialEq)]
+pub struct Alone {
+    pub at: [usize; 3],
+    pub values: usize,
+    pub codes: usize,
+}
+
+impl Alone {
+    /// With the one place that each of the two takes.
+    pub fn at(at: [usize; 3]) -> Alone {
+        Alone {
+            at,
+            values: 1,
+            codes: 1,
+        }
+    }
+}
+
 /// As a line that `oracle ask` reads, floats by their bits; below it, what that line cannot say.
 impl fmt::Display for Request {
     fn fmt(&self, f: &mut fmt::Formatter) -> fmt::Result {

@@ -34,6 +34,32 @@ pub fn call(asked: &Asked, input: &[f64]) -> Option<Theirs> {
     }
 }
 
+/// The value and the code of one voxel, by the Rust's tables and its sum over any coefficients; `None` where it
+/// panics. Without a prefilter the coefficients are the input.
+pub fn voxel(asked: &Asked, source: &[f64], at: [usize; 3]) -> Option<(f64, u8)> {
+    match asked.mode()? {
+        Mode::Replicate => replicate::voxel(asked, source, at),
+        mode => rust::call(|| {
+            let (order, mode) = (asked.order, mode.rusts());
+            axes(asked, mode).voxel(order, mode, &volume(asked.source_dims(), source), at)
+        }),
+    }
+}
+
+fn volume(dims: [usize; 3], values: &[f64]) -> Array3<f64> {
+    let volume = Array3::from_shape_vec(dims, values.to_vec());
+    volume.expect("as many voxels as the dimensions say")
+}
+
+fn axes(asked: &Asked, mode: BorderMode<f64>) -> Axes {
+    let of = match asked.entry {
+        Entry::Zoom => Axes::of_zoom,
+        _ => Axes::of_shift,
+    };
+    let prefilter = asked.prefilter != 0;
+    of(asked.dims, asked.factors, asked.order, mode, prefilter)
+}
+
 fn answer(asked: &Asked, input: &[f64], mode: BorderMode<f64>) -> Theirs {
     let &Asked {
         entry,
@@ -44,10 +70,9 @@ fn answer(asked: &Asked, input: &[f64], mode: BorderMode<f64>) -> Theirs {
         ..
     } = asked;
     let prefilter = asked.prefilter != 0;
-    let data =
-        Array3::from_shape_vec(dims, input.to_vec()).expect("as many voxels as the dimensions say");
-    let resampled = |values: Array3<f64>, axes: Axes| Theirs {
-        codes: axes.codes(order, mode),
+    let data = volume(dims, input);
+    let resampled = |values: Array3<f64>| Theirs {
+        codes: axes(asked, mode).codes(order, mode),
         coefficients: if prefilter && order > 1 {
             flat(&coefficients(&data, order, mode, prefilter))
         } else {
@@ -56,14 +81,8 @@ fn answer(asked: &Asked, input: &[f64], mode: BorderMode<f64>) -> Theirs {
         ..filtered(values)
     };
     match entry {
-        Entry::Shift => resampled(
-            shift(&data, factors, order, mode, prefilter),
-            Axes::of_shift(dims, factors, order, mode, prefilter),
-        ),
-        Entry::Zoom => resampled(
-            zoom(&data, factors, order, mode, prefilter),
-            Axes::of_zoom(dims, factors, order, mode, prefilter),
-        ),
+        Entry::Shift => resampled(shift(&data, factors, order, mode, prefilter)),
+        Entry::Zoom => resampled(zoom(&data, factors, order, mode, prefilter)),
         Entry::SplineFilter => filtered(spline_filter(&data, order, mode)),
         Entry::SplineFilter1d => filtered(spline_filter1d(&data, order, mode, Axis(axis))),
     }

@@ -107,6 +107,24 @@ impl Axes {
         codes
     }
 
+    /// The value and the code of one voxel, over any volume that the sums may read.
+    pub fn voxel(
+        &self,
+        order: usize,
+        mode: BorderMode<f64>,
+        source: &ArrayRef3<f64>,
+        at: [usize; 3],
+    ) -> (f64, u8) {
+        let tables = self.tables(order, mode);
+        let mark = |axis: usize| {
+            let point = Point::of(&tables, axis, at[axis]);
+            Mark::of(&point, self.idim[axis], self.nb_prepad)
+        };
+        let [x, y, z] = at;
+        let value = tables.interpolate(source, (x, y, z));
+        (value, mark(0).max(mark(1)).max(mark(2)).code(mode))
+    }
+
     /// For each axis the codes along it, as voxels bear them that the other two axes leave at 0.
     pub fn codes_along(&self, order: usize, mode: BorderMode<f64>) -> [Vec<u8>; 3] {
         let codes = |marks: Vec<Mark>| marks.iter().map(|mark| mark.code(mode)).collect();
