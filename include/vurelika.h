@@ -125,7 +125,7 @@ uint32_t vurelika_zoom(size_t d0, size_t d1, size_t d2, double f0, double f1, do
                        uint64_t *counts, size_t counts_len);
 
 /* One voxel of what vurelika_shift writes, worked out afresh, to recheck it where there is no room for the
- * volume that comes out: no table, and at most about 4 kB of stack. x, y, z is its index on each axis of the
+ * volume that comes out: no table, and about 2 kB of stack. x, y, z is its index on each axis of the
  * output. value has exactly 1 place and takes the bits that vurelika_shift writes there, code has exactly 1
  * place and takes its code.
  *
