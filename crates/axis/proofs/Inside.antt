@@ -126,31 +126,31 @@ neighbour-stands order L to k o top w above l e =
     let within = or-false (lt first (num 0)) (le (num L) (first ⊕ num order)) e in
     plain-inside first (f .0) (1 + order / 2) (f .1) (omega arith) (f .2) order k L o l top (within .0) (within .1)
 
--- ---- the theorem: orders 1 to 5, and order 0 where the index is not outside
+-- ---- the theorem: on an axis of 2 voxels or more, and on any axis where none lies outside
 pub neighbour-inside :
-    (order : ℕ) (mode : BorderMode) (L : ℕ) (to : Float) (k : ℕ) → order ≤ 5 → 2 ≤ L → L ≤ 4120 → Within 30 to → Above to → k ≤ order →
+    (order : ℕ) (mode : BorderMode) (L : ℕ) (to : Float) (k : ℕ) → order ≤ 5 → (outside order L (firstNeighbour order to) ≡ true → 2 ≤ L) → L ≤ 4120 → Within 30 to → Above to → k ≤ order →
     (i : ℕ) × (i < L) × Is (neighbour mode (outside order L (firstNeighbour order to)) L (firstNeighbour order to) k) (pos i)
 unfolding neighbour
 neighbour-inside order mode L to k o two top w above l =
     let f = first-is order to o w above in
     let first = firstNeighbour order to in
     let small : 1 + order / 2 ≤ 3 = omega arith in
-    go (outside order L first) (or-false (lt first (num 0)) (le (num L) (first ⊕ num order))) (folded-inside first (f .0) (1 + order / 2) (f .1) small (f .2) mode k L (le-trans l o) two top)
+    go (outside order L first) two (or-false (lt first (num 0)) (le (num L) (first ⊕ num order))) (λ more. folded-inside first (f .0) (1 + order / 2) (f .1) small (f .2) mode k L (le-trans l o) more top)
     (λ p q. plain-inside first (f .0) (1 + order / 2) (f .1) small (f .2) order k L o l top p q)
   where
-    go : (t : Bool) {x y : Float} → (t ≡ false → (lt (firstNeighbour order to) (num 0) ≡ false) × (le (num L) (firstNeighbour order to ⊕ num order) ≡ false)) → (i : ℕ) × (i < L) × Is x (pos i)
+    go : (t : Bool) {x y : Float} → (t ≡ true → 2 ≤ L) → (t ≡ false → (lt (firstNeighbour order to) (num 0) ≡ false) × (le (num L) (firstNeighbour order to ⊕ num order) ≡ false)) → (2 ≤ L → (i : ℕ) × (i < L) × Is x (pos i))
         → (lt (firstNeighbour order to) (num 0) ≡ false → le (num L) (firstNeighbour order to ⊕ num order) ≡ false → (i : ℕ) × (i < L) × Is y (pos i)) → (i : ℕ) × (i < L) × Is (cond t x y) (pos i)
-    go true s x y = x
-    go false s x y = y (s refl .0) (s refl .1)
+    go true two s x y = x (two refl)
+    go false two s x y = y (s refl .0) (s refl .1)
 
-pub index-inside : (order : ℕ) (mode : BorderMode) (L : ℕ) (to : Float) (k : ℕ) → order ≤ 5 → 2 ≤ L → L ≤ 4120 → Within 30 to → Above to → k ≤ order → neighbourIndex mode (outside order L (firstNeighbour order to)) L (firstNeighbour order to) k < L
+pub index-inside : (order : ℕ) (mode : BorderMode) (L : ℕ) (to : Float) (k : ℕ) → order ≤ 5 → (outside order L (firstNeighbour order to) ≡ true → 2 ≤ L) → L ≤ 4120 → Within 30 to → Above to → k ≤ order → neighbourIndex mode (outside order L (firstNeighbour order to)) L (firstNeighbour order to) k < L
 unfolding neighbourIndex
 index-inside order mode L to k o two top w above l =
     let n = neighbour-inside order mode L to k o two top w above l in
     subst (λ (i : ℕ). i < L) (sym (toUnsigned-is (n .2) (le-trans (native.Mathlib.Nat.le-of-lt (n .1)) (le-trans top (lit≤ tt))))) (n .1)
 
 -- what the cast to an index asks
-pub index-asks : (order : ℕ) (mode : BorderMode) (L : ℕ) (to : Float) (k : ℕ) → order ≤ 5 → 2 ≤ L → L ≤ 4120 → Within 30 to → Above to → k ≤ order →
+pub index-asks : (order : ℕ) (mode : BorderMode) (L : ℕ) (to : Float) (k : ℕ) → order ≤ 5 → (outside order L (firstNeighbour order to) ≡ true → 2 ≤ L) → L ≤ 4120 → Within 30 to → Above to → k ≤ order →
     Indexes (neighbour mode (outside order L (firstNeighbour order to)) L (firstNeighbour order to) k)
 index-asks order mode L to k o two top w above l =
     let n = neighbour-inside order mode L to k o two top w above l in

@@ -7,4 +7,5 @@ pub mod Inside
 pub mod Points
 pub mod Folding
 pub mod Settling
+pub mod Singles
 pub mod Worked

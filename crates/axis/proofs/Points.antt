@@ -1,17 +1,19 @@
 -- The record of an output index, by the steps that the code takes; and when its mark is 2.
-use Prim.Native.Nat.{ℕ, _+_, _≤_, _<_}
+use Prim.Native.Nat.{ℕ, zero, suc, _+_, _≤_, _<_, zero-le, suc-le-suc}
 use native.Mathlib.Nat.{not-suc-le-zero}
 use native.Mathlib.Decide.{decLt}
 use native.Mathlib.Omega.{arith}
 use mathlib.Core.Path.{_≡_, refl, sym, ap, _∙_, subst}
 use mathlib.Core.Logic.{dite}
-use mathlib.Core.Bool.{Bool, true, false, _&&_, cond}
+use mathlib.Core.Bool.{Bool, true, false, _&&_, cond, true≢false}
 use mathlib.Core.List.{List}
 use lib.Dec.{T, leb, eqb}
 use lib.ListN.{length, getD, set, replicate, length-set, getD-replicate, List·getD-eq-default}
 use lib.Seq.{getD-set-other}
 use lib.Ieee.{Float, neg, ofInt, lt, le}
 use borrow.Author.Tests.{lt-leb, eq-eqb, ne-eqb}
+use Rattle.limits.specs.Limits.{single}
+use Rattle.limits.proofs.Singles.{two-long, long-two}
 use Rattle.exact.specs.Rounded.{_⊕_, num}
 use Rattle.exact.specs.Within.{Within}
 use Rattle.exact.proofs.Value.{of-true}
@@ -23,7 +25,7 @@ use Rattle.border.specs.declared.BorderMode.{BorderMode}
 use Rattle.border.specs.Fold.{fold}
 use Rattle.axis.specs.declared.coordinate.Axis.{Axis}
 use Rattle.axis.specs.Coordinate.{settled, kept}
-use Rattle.axis.specs.Weights.{buildSplines}
+use Rattle.axis.specs.Weights.{orderOn, buildSplines}
 use Rattle.axis.specs.Neighbours.{firstNeighbour, outside, splineMode, neighbour, neighbourIndex}
 use Rattle.axis.specs.Bookkeeping.{Indexes}
 use Rattle.axis.specs.declared.point.Point.{Point}
@@ -87,6 +89,14 @@ not-outside order e = ap (λ (b : Bool). eqb order 0 && b) e ∙ never (eqb orde
 pub not-order-zero : (order : ℕ) (t : Bool) → (order ≡ 0 → ⊥) → (eqb order 0 && t) ≡ false
 not-order-zero order t n = simp (ne-eqb order 0 n)
 
+-- its neighbours are folded on an axis of 2 voxels or more alone
+pub kept-two : {order len : ℕ} {to : Float} → Kept order len to → (eqb order 0 && outside order len (firstNeighbour order to)) ≡ false → outside order len (firstNeighbour order to) ≡ true → 2 ≤ len
+kept-two {order} {len} {to} p t o = p .two (some order (ap (λ (b : Bool). eqb order 0 && b) (sym o) ∙ t))
+  where
+    some : (n : ℕ) → (eqb n 0 && true) ≡ false → 1 ≤ n
+    some zero e = absurd (true≢false e)
+    some (suc n) e = suc-le-suc zero-le
+
 module _ (order : ℕ) (mode : BorderMode) (len : ℕ) (to : Float) {first : Float} (e : first ≡ firstNeighbour order to) where
   pub kept-outside : order ≡ 0 → outside order len first ≡ true → empty 2 ≡ keptPoint order mode len to
   unfolding keptPoint
@@ -100,25 +110,48 @@ module _ (order : ℕ) (mode : BorderMode) (len : ℕ) (to : Float) {first : Flo
       rw (p, whole, test) refl
 
   -- what the casts of its neighbours ask
-  pub kept-asks : Kept order len to → {out : Bool} → out ≡ outside order len first → (k : ℕ) → k ≤ order → Indexes (neighbour mode out len first k)
-  kept-asks p {out} o k l =
+  pub kept-asks : Kept order len to → (eqb order 0 && outside order len first) ≡ false → {out : Bool} → out ≡ outside order len first → (k : ℕ) → k ≤ order → Indexes (neighbour mode out len first k)
+  kept-asks p t {out} o k l =
       subst (λ (x : Float). Indexes (neighbour mode out len x k)) (sym e)
-      (subst (λ (t : Bool). Indexes (neighbour mode t len (firstNeighbour order to) k)) (sym (o ∙ ap (λ (x : Float). outside order len x) e)) (index-asks order mode len to k (p .upto) (p .least) (p .most) (p .bound) (above-kept to (p .above)) l))
+      (subst (λ (t : Bool). Indexes (neighbour mode t len (firstNeighbour order to) k)) (sym (o ∙ ap (λ (x : Float). outside order len x) e)) (index-asks order mode len to k (p .upto) (kept-two p (subst (λ (x : Float). (eqb order 0 && outside order len x) ≡ false) e t)) (p .most) (p .bound) (above-kept to (p .above)) l))
+
+-- ---- the order that an axis is read at
+module _ (len order : ℕ) where
+  pub single-order : single len ≡ true → orderOn len order ≡ 0
+  single-order e = simp e
+
+  pub long-order : 2 ≤ len → orderOn len order ≡ order
+  long-order l = simp (two-long len l)
+
+  pub order-most : {k : ℕ} → order ≤ k → orderOn len order ≤ k
+  order-most {k} l = go (single len)
+    where
+      go : (t : Bool) → cond t 0 order ≤ k
+      go true = zero-le
+      go false = l
+
+  pub above-order-0 : 1 ≤ len → 1 ≤ orderOn len order → 2 ≤ len
+  above-order-0 l o = go (single len) refl o
+    where
+      go : (t : Bool) → single len ≡ t → 1 ≤ cond t 0 order → 2 ≤ len
+      go true e h = absurd (not-suc-le-zero h)
+      go false e h = long-two len e l
 
 -- ---- the record of an output index
 module _ (order : ℕ) (mode : BorderMode) (a : Axis) (i : ℕ) {to : Float} (e : to ≡ settled mode a i) where
-  pub reached-kept : Reached order a i → kept to ≡ true → Kept order (a .len) to
+  pub reached-kept : Reached order a i → kept to ≡ true → Kept (orderOn (a .len) order) (a .len) to
   reached-kept r t = record {
-    upto = r .upto;
+    upto = order-most (a .len) order (r .upto);
     least = r .least;
+    two = above-order-0 (a .len) order (r .least);
     most = r .most;
     bound = subst (λ (x : Float). Within 30 x) (sym e) (settled-within mode r);
     above = of-true (kept to) t;
   }
 
-  pub point-kept : kept to ≡ true → keptPoint order mode (a .len) to ≡ pointAt order mode a i
+  pub point-kept : {o : ℕ} → o ≡ orderOn (a .len) order → kept to ≡ true → keptPoint o mode (a .len) to ≡ pointAt order mode a i
   unfolding pointAt
-  point-kept t = ap (λ (x : Float). keptPoint order mode (a .len) x) e ∙ simp (ap (λ (x : Float). kept x) (sym e) ∙ t)
+  point-kept n t = (λ j. keptPoint (n j) mode (a .len) (e j)) ∙ simp (ap (λ (x : Float). kept x) (sym e) ∙ t)
 
   pub point-dropped : kept to ≡ false → empty 1 ≡ pointAt order mode a i
   unfolding pointAt
@@ -127,8 +160,11 @@ module _ (order : ℕ) (mode : BorderMode) (a : Axis) (i : ℕ) {to : Float} (e 
   -- the mark says whether it is kept
   pub kept-by-mark : {t : Point} → t ≡ pointAt order mode a i → isKeptMark (t .mark) ≡ kept (settled mode a i)
   unfolding pointAt keptPoint
-  kept-by-mark {t} e = ap (λ (p : Point). isKeptMark (p .mark)) e ∙ go (kept (settled mode a i)) (eqb order 0 && outside order (a .len) (firstNeighbour order (settled mode a i))) _ _
+  kept-by-mark {t} e = ap (λ (p : Point). isKeptMark (p .mark)) e ∙ go (kept (settled mode a i)) (eqb o 0 && outside o (a .len) (firstNeighbour o (settled mode a i))) _ _
     where
+      o : ℕ
+      o = orderOn (a .len) order
+
       go : (k o : Bool) (w : List Float) (n : List ℕ) → isKeptMark (cond k (cond o (empty 2) (record { mark = 0; weight = w; at = n })) (empty 1) .mark) ≡ k
       go true true w n = refl
       go true false w n = refl

@@ -2,11 +2,13 @@
 use Prim.Native.Nat.{ℕ, zero, suc, _+_, _-_, _*_, _/_, _^_, _≤_, _<_, zero-le, suc-le-suc}
 use native.Mathlib.Nat.{le-trans, mul-comm, mul-suc, mul-le-mul-left, div-mul-le-self}
 use native.Mathlib.Omega.{arith}
-use mathlib.Core.Path.{_≡_, sym, subst}
+use mathlib.Core.Path.{_≡_, refl, sym, subst}
 use mathlib.Core.Bool.{Bool, true, false, _||_, cond}
 use lib.IntN.{ℤ, pos, negsuc, natAbs, sucℤ, _+ℤ_, _*ℤ_, +ℤ-one}
 use lib.Dec.{lit≤}
 use lib.Ieee.{Float, neg, lt, le}
+use Rattle.limits.specs.Limits.{single}
+use Rattle.limits.proofs.Singles.{long-two}
 use Rattle.exact.specs.Rounded.{_⊕_, _⊖_, _⊗_, _⊘_, num}
 use Rattle.exact.specs.Whole.{Is}
 use Rattle.exact.specs.Within.{Within}
@@ -22,6 +24,7 @@ use Rattle.border.proofs.Periods.{size-multiple}
 use Rattle.axis.specs.declared.coordinate.Axis.{Axis}
 use Rattle.axis.specs.Coordinate.{unpadded, coordinate, unpaddedLength, folds, settledBy, settled, shiftAxis, zoomAxis}
 use Rattle.axis.specs.Bookkeeping.{Reached}
+use Rattle.axis.proofs.Coordinates.{single-settled, long-settled}
 
 -- ---- the coordinate itself
 num-within : (n k : ℕ) → k ≤ 53 → n ≤ 2 ^ k → Within k (num n)
@@ -36,11 +39,16 @@ shift-reaches length shift pad i s l =
     within-mono {j = 21} (lit≤ tt)
     (mul-within {j = 21} {k = 0} (lit≤ tt) (add-within {k = 20} (lit≤ tt) (num-within i 20 (lit≤ tt) (le-trans l (lit≤ tt))) (neg-within s)) (num-within 1 0 (lit≤ tt) (lit≤ tt)))
 
-pub zoom-reaches : (length out pad i : ℕ) → length ≤ 4096 → 2 ≤ out → out ≤ 4096 → i ≤ 4096 → Within 25 (unpadded (zoomAxis length out pad) i)
+pub zoom-reaches : (length out pad i : ℕ) → length ≤ 4096 → (single length ≡ false → 2 ≤ out) → out ≤ 4096 → i ≤ 4096 → Within 25 (unpadded (zoomAxis length out pad) i)
 unfolding unpadded
 zoom-reaches length out pad i n two o l =
-    mul-within {j = 13} {k = 12} (lit≤ tt) (add-within {k = 12} (lit≤ tt) (num-within i 12 (lit≤ tt) l) (num-within 0 12 (lit≤ tt) (lit≤ tt)))
-    (div-within (num (out - 1)) (lit≤ tt) (num-within (length - 1) 12 (lit≤ tt) (omega arith)) (least-of-is (num (out - 1)) (num-is (out - 1) (omega arith)) (omega arith)))
+    mul-within {j = 13} {k = 12} (lit≤ tt) (add-within {k = 12} (lit≤ tt) (num-within i 12 (lit≤ tt) l) (num-within 0 12 (lit≤ tt) (lit≤ tt))) (ratio (single length) two)
+  where
+    ratio : (t : Bool) → (t ≡ false → 2 ≤ out) → Within 12 (cond t (num 1) (num (length - 1) ⊘ num (out - 1)))
+    ratio true h = num-within 1 12 (lit≤ tt) (lit≤ tt)
+    ratio false h =
+        let more = h refl in
+        div-within (num (out - 1)) (lit≤ tt) (num-within (length - 1) 12 (lit≤ tt) (omega arith)) (least-of-is (num (out - 1)) (num-is (out - 1) (omega arith)) (omega arith))
 
 -- ---- the whole periods in a coordinate
 product-most : (b n q P : ℕ) → n ≤ suc (suc q) → q * b ≤ P → b * n ≤ P + (b + b)
@@ -158,22 +166,26 @@ module _ {idx len : Float} (L : ℕ) (w : Within 26 idx) (is : Is len (pos L)) (
   fold-within Replicate = within-mono {j = 29} (lit≤ tt) (replicate-within (within-mono (lit≤ tt) w) (within-mono (lit≤ tt) len-within))
 
 pub settled-within : (mode : BorderMode) {order : ℕ} {a : Axis} {i : ℕ} → Reached order a i → Within 30 (settled mode a i)
-unfolding settled coordinate fold
-settled-within mode {order} {a} {i} r = go mode
+unfolding coordinate fold
+settled-within mode {order} {a} {i} r = by (single (a .len)) refl
   where
     to : Within 26 (unpadded a i ⊕ a .pad)
     to = add-within {k = 25} (lit≤ tt) (r .bound) (r .pad)
 
-    folded : (mode : BorderMode) → Within 30 (fold mode (unpadded a i ⊕ a .pad) (num (a .len)))
-    folded mode = fold-within (a .len) to (num-is (a .len) (omega (arith, r .most))) (r .least) (r .most) mode
+    folded : 2 ≤ a .len → (mode : BorderMode) → Within 30 (fold mode (unpadded a i ⊕ a .pad) (num (a .len)))
+    folded two mode = fold-within (a .len) to (num-is (a .len) (omega (arith, r .most))) two (r .most) mode
 
     before : Within 28 (unpaddedLength a)
     before = sub-within {k = 27} (lit≤ tt) (num-within (a .len) 27 (lit≤ tt) (omega (arith, r .most))) (within-mono {j = 26} (lit≤ tt) (mul-within {j = 1} {k = 25} (lit≤ tt) (num-within 2 1 (lit≤ tt) (lit≤ tt)) (r .pad)))
 
-    go : (mode : BorderMode) → Within 30 (settledBy (folds mode) mode a i)
-    go (Constant fill) = folded (Constant fill)
-    go Mirror = folded Mirror
-    go Nearest = within-mono {j = 26} (lit≤ tt) to
-    go Reflect = folded Reflect
-    go Wrap = folded Wrap
-    go Replicate = add-within {k = 29} (lit≤ tt) (replicate-within (within-mono {j = 25} (lit≤ tt) (r .bound)) before) (within-mono {j = 25} (lit≤ tt) (r .pad))
+    go : 2 ≤ a .len → (mode : BorderMode) → Within 30 (settledBy (folds mode) mode a i)
+    go two (Constant fill) = folded two (Constant fill)
+    go two Mirror = folded two Mirror
+    go two Nearest = within-mono {j = 26} (lit≤ tt) to
+    go two Reflect = folded two Reflect
+    go two Wrap = folded two Wrap
+    go two Replicate = add-within {k = 29} (lit≤ tt) (replicate-within (within-mono {j = 25} (lit≤ tt) (r .bound)) before) (within-mono {j = 25} (lit≤ tt) (r .pad))
+
+    by : (t : Bool) → single (a .len) ≡ t → Within 30 (settled mode a i)
+    by true e = subst (λ (x : Float). Within 30 x) (sym (single-settled mode a i e)) (within-mono {j = 26} (lit≤ tt) to)
+    by false e = subst (λ (x : Float). Within 30 x) (sym (long-settled mode a i e)) (go (long-two (a .len) e (r .least)) mode)

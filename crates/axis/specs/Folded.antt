@@ -11,10 +11,10 @@ use Rattle.lists.specs.Some.{someBelow}
 use Rattle.border.specs.declared.BorderMode.{BorderMode}
 use Rattle.axis.specs.declared.coordinate.Axis.{Axis}
 use Rattle.axis.specs.Coordinate.{settled}
-use Rattle.axis.specs.Weights.{buildSplines}
+use Rattle.axis.specs.Weights.{orderOn, buildSplines}
 use Rattle.axis.specs.Neighbours.{firstNeighbour}
 
--- neighbour k of output index i: its weight in the sum, and where it lies before its own fold
+-- at the order that an axis is read at: neighbour k of output index i, its weight in the sum, and where it lies before its own fold
 unfoldable pub weightAt : ℕ → BorderMode → Axis → ℕ → ℕ → Float
 unfolding settled buildSplines
 weightAt order mode a i k = getD (buildSplines order (settled mode a i)) k nan
@@ -36,9 +36,12 @@ abbrev pub foldedBy : ℕ → BorderMode → Axis → ℕ → ℕ → Bool
 foldedBy order mode a i k = weighs (weightAt order mode a i k) && beyond a (unfoldedAt order mode a i k)
 
 -- some neighbour of output index i does
+abbrev pub someFolded : ℕ → BorderMode → Axis → ℕ → Bool
+someFolded order mode a i = someBelow (foldedBy order mode a i) (order + 1)
+
 unfoldable pub foldedAt : ℕ → BorderMode → Axis → ℕ → Bool
 unfolding someBelow weightAt unfoldedAt
-foldedAt order mode a i = someBelow (foldedBy order mode a i) (order + 1)
+foldedAt order mode a i = someFolded (orderOn (a .len) order) mode a i
 
 -- ---- the same in whole numbers: an axis of `length` voxels, which stand from the pad on
 -- x is one of its voxels

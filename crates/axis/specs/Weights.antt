@@ -5,8 +5,13 @@ use mathlib.Core.List.{List, [], _∷_, _++_}
 use lib.Dec.{eqb}
 use lib.ListN.{take, replicate}
 use lib.Ieee.{Float}
+use Rattle.limits.specs.Limits.{single}
 use Rattle.exact.specs.Rounded.{_⊕_, _⊖_, _⊗_, _⊘_, num, half, decimal}
 use Rattle.exact.specs.Floor.{floorF}
+
+-- #106: an axis of length 1 "contributes its one voxel with a single weight of exactly 1". So does every axis at order 0, and that is the order that such an axis is read at
+abbrev pub orderOn : ℕ → ℕ → ℕ
+orderOn len order = cond (single len) 0 order
 
 -- the floor that distances and neighbours start from
 unfoldable pub base : ℕ → Float → Float

@@ -3,11 +3,13 @@ ghost use mathlib.Core.Path.{_≡_};
 ghost use Prim.Native.Nat.{_≤_};
 ghost use Rattle.limits.specs.Limits.{longest};
 ghost use Rattle.exact.specs.Rounded.{num};
-ghost use Rattle.axis.specs.Coordinate.{folds, settled, pads, padOf, shiftAxis, zoomAxis};
+ghost use Rattle.axis.specs.Coordinate.{folds, settled, pads, hasPad, padOf, shiftAxis, zoomAxis};
 ghost use Rattle.axis.specs.Length.{outputLength};
-ghost use Rattle.axis.specs.Bookkeeping.{Zooms};
+ghost use Rattle.axis.specs.Bookkeeping.{Zooms, foldsOn};
 use border::BorderMode;
 use border::map_coordinates;
+use limits::edge_of;
+use limits::is_single;
 
 // One axis of a request: its length as padded, the output length, and the map of an output index.
 pub struct Axis {
@@ -39,18 +41,27 @@ fn pads(mode: BorderMode) -> bool
     }
 }
 
-// How many edge copies stand on each side of an axis.
-pub fn pad_of(mode: BorderMode, prefilter: bool, order: usize) -> usize
-    ensures { λ r. ⌜ r ≡ padOf mode prefilter order ⌝ }
+// Whether a request has edge copies.
+pub fn has_pad(mode: BorderMode, prefilter: bool, order: usize) -> bool
+    ensures { λ r. ⌜ r ≡ hasPad mode prefilter order ⌝ }
 {
     if prefilter {
         if order > 1 {
-            if pads(mode) {
-                return 12;
-            }
+            return pads(mode);
         }
     }
-    0
+    false
+}
+
+// How many stand on each side of an axis.
+pub fn pad_of(mode: BorderMode, prefilter: bool, order: usize, length: usize) -> usize
+    ensures { λ r. ⌜ r ≡ padOf mode prefilter order length ⌝ }
+{
+    if has_pad(mode, prefilter, order) {
+        edge_of(length)
+    } else {
+        0
+    }
 }
 
 pub fn shift_axis(length: usize, shift: f64, pad: usize) -> Axis
@@ -66,6 +77,17 @@ pub fn shift_axis(length: usize, shift: f64, pad: usize) -> Axis
     }
 }
 
+// A single slice stays one: 0 / 0 is never formed.
+fn zoom_ratio(length: usize, out: usize) -> f64
+    requires { ⌜ (1 ≤ length) × (1 ≤ out) ⌝ }
+    ensures { λ r. ⌜ r ≡ zoomAxis length out 0 .ratio ⌝ }
+{
+    if is_single(length) {
+        return 1.0;
+    }
+    float_of(length - 1) / float_of(out - 1)
+}
+
 pub fn zoom_axis(length: usize, out: usize, pad: usize) -> Axis
     requires { ⌜ ((1 ≤ length) × (length ≤ longest)) × ((1 ≤ out) × (pad ≤ 12)) ⌝ }
     ensures { λ r. ⌜ r ≡ zoomAxis length out pad ⌝ }
@@ -74,7 +96,7 @@ pub fn zoom_axis(length: usize, out: usize, pad: usize) -> Axis
         len: length + 2 * pad,
         out,
         shift: 0.0,
-        ratio: float_of(length - 1) / float_of(out - 1),
+        ratio: zoom_ratio(length, out),
         pad: float_of(pad),
     }
 }
@@ -99,12 +121,22 @@ fn folds(mode: BorderMode) -> When
     }
 }
 
+// A single slice is not folded.
+fn folds_on(len: usize, mode: BorderMode) -> When
+    ensures { λ r. ⌜ r ≡ foldsOn len mode ⌝ }
+{
+    if is_single(len) {
+        return When::Never;
+    }
+    folds(mode)
+}
+
 // The coordinate of an output index, settled by the mode.
 pub fn settled_at(a: Axis, i: usize, mode: BorderMode) -> f64
     ensures { λ r. ⌜ r ≡ settled mode a i ⌝ }
 {
     let unpadded = (float_of(i) + a.shift) * a.ratio;
-    let when = folds(mode);
+    let when = folds_on(a.len, mode);
     match when {
         When::Never => unpadded + a.pad,
         When::WithPad => map_coordinates(unpadded + a.pad, float_of(a.len), mode),

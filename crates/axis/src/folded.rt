@@ -2,12 +2,13 @@
 ghost use mathlib.Core.Path.{_≡_};
 ghost use mathlib.Core.Bool.{_&&_};
 ghost use Prim.Native.Nat.{_≤_};
-ghost use Rattle.axis.specs.Folded.{weighs, beyond, foldedAt};
+ghost use Rattle.axis.specs.Folded.{weighs, beyond, someFolded, foldedAt};
 use crate::coordinate::Axis;
 use crate::coordinate::float_of;
 use crate::coordinate::settled_at;
 use crate::point::first_neighbour;
 use crate::splines::build_splines;
+use crate::splines::order_on;
 use border::BorderMode;
 
 // A neighbour at x, before its fold, with weight w: whether it brings in something from outside the
@@ -24,10 +25,10 @@ fn weighs_beyond(a: Axis, x: f64, w: f64) -> bool
     x >= float_of(a.len) - a.pad
 }
 
-// Whether some neighbour of output index i does.
-pub fn is_folded(a: Axis, i: usize, order: usize, mode: BorderMode) -> bool
+// Whether some neighbour of output index i does, at the order that the axis is read at.
+fn some_folded(a: Axis, i: usize, order: usize, mode: BorderMode) -> bool
     requires { ⌜ order ≤ 5 ⌝ }
-    ensures { λ r. ⌜ r ≡ foldedAt order mode a i ⌝ }
+    ensures { λ r. ⌜ r ≡ someFolded order mode a i ⌝ }
 {
     let to = settled_at(a, i, mode);
     let weight = build_splines(to, order);
@@ -40,4 +41,11 @@ pub fn is_folded(a: Axis, i: usize, order: usize, mode: BorderMode) -> bool
         k += 1;
     }
     false
+}
+
+pub fn is_folded(a: Axis, i: usize, order: usize, mode: BorderMode) -> bool
+    requires { ⌜ order ≤ 5 ⌝ }
+    ensures { λ r. ⌜ r ≡ foldedAt order mode a i ⌝ }
+{
+    some_folded(a, i, order_on(a.len, order), mode)
 }

@@ -10,6 +10,7 @@ use crate::coordinate::float_of;
 use crate::coordinate::settled_at;
 use crate::splines::base_of;
 use crate::splines::build_splines;
+use crate::splines::order_on;
 use border::BorderMode;
 use border::map_coordinates;
 
@@ -34,7 +35,7 @@ pub fn point_at(a: Axis, i: usize, order: usize, mode: BorderMode) -> Point
 {
     let to = settled_at(a, i, mode);
     if to > -1.0 {
-        return kept_point(to, a.len, order, mode);
+        return kept_point(to, a.len, order_on(a.len, order), mode);
     }
     Point {
         mark: 1,

@@ -1,7 +1,15 @@
 // The weights of each order.
 ghost use mathlib.Core.Path.{_≡_};
 ghost use Prim.Native.Nat.{_≤_};
-ghost use Rattle.axis.specs.Weights.{base, quartic, quinticOuter, quinticInner, leading1, leading2, leading3, leading4, leading5, completed, sixFloats, buildSplines};
+ghost use Rattle.axis.specs.Weights.{orderOn, base, quartic, quinticOuter, quinticInner, leading1, leading2, leading3, leading4, leading5, completed, sixFloats, buildSplines};
+use limits::is_single;
+
+// The order that an axis is read at: a single slice has one neighbour, with the weight 1.
+pub(crate) fn order_on(len: usize, order: usize) -> usize
+    ensures { λ r. ⌜ r ≡ orderOn len order ⌝ }
+{
+    if is_single(len) { 0 } else { order }
+}
 
 // The floor from which distances and neighbours count.
 pub fn base_of(order: usize, to: f64) -> f64

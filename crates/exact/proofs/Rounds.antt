@@ -1,15 +1,16 @@
--- `roundTiesEvenF`, by the steps that `nearest_whole` takes: x compared with the middle between its floor and the next whole number. And what it is of a number from 0 up: a natural number.
+-- `roundTiesEvenF`, by the steps that `nearest_whole` takes: x compared with the middle between its floor and the next whole number. And what it is of a number from 0 up: a natural number; and near 1, 1.
 -- Assumes nothing.
 use mathlib.Core.Path.{_≡_, refl, sym, ap, _∙_, subst}
 use mathlib.Core.Logic.{dite}
-use Prim.Native.Nat.{ℕ, zero, suc, _+_, _*_, _/_, _%_, _^_, _≤_, _<_, compare, Ordering, Ordering·lt, Ordering·eq, Ordering·gt}
-use native.Mathlib.Nat.{mul-one, one-mul, zero-mul, zero-mod, mod-one, zero-lt-suc, le-trans, le-of-eq, le-of-lt, lt-of-le-of-lt, mul-right-comm, add-mul, mul-le-mul-left, div-mul-le-self, div-add-mod', ne-of-lt, not-le-of-lt}
-use native.Mathlib.Decide.{ℕ-discrete}
+use Prim.Native.Nat.{ℕ, zero, suc, _+_, _-_, _*_, _/_, _%_, _^_, _≤_, _<_, compare, Ordering, Ordering·lt, Ordering·eq, Ordering·gt}
+use native.Mathlib.Nat.{mul-one, one-mul, zero-mul, zero-mod, mod-one, zero-lt-suc, le-trans, le-of-eq, le-of-lt, lt-of-le-of-lt, mul-right-comm, add-mul, mul-le-mul-left, div-mul-le-self, div-add-mod', div-eq-of-lt, mod-eq-of-lt, ne-of-lt, not-le-of-lt}
+use native.Mathlib.Decide.{decLt, ℕ-discrete}
 use native.Mathlib.Numerals.{add-one}
 use native.Mathlib.Omega.{arith}
 use mathlib.Core.Bool.{Bool, true, false, not, cond, false≢true, Bool·not-not}
 use lib.IntN.{ℤ, pos, negsuc}
 use lib.Dec.{T, isLe, isEq, ltb, eqb, leb→le, le→leb, eqb→eq, nltb→le, ltb→lt, not-T, lit≤}
+use lib.Arith.{digits-div, digits-mod}
 use lib.Pow.{pow-mono}
 use lib.Ieee.{Float, nan, inf, fin, binary64, up, down, nearest, round, sum, neg, add, mul, div, lt, eq, fits, ofInt}
 use lib.Ieee.Exact.{HasValue}
@@ -211,3 +212,32 @@ round-between x n N = natural-between roundTiesEvenF rounded-whole x n broken
         let q = closest (m * up e) (down e) in
         let l : q ≤ n = le-trans (nearest-le (m * up e / down e) (compare (m * up e % down e * 2) (down e))) (cut-less (m * up e) (down e) n b h) in
         (q, l, subst (λ (y : Float). Is y (pos q)) (sym (rounded-broken false m e b)) (round-is false q (pos q) refl (le-trans l N)))
+
+-- ---- a number above 1 / 2 and below 3 / 2 is rounded to 1
+pub round-to-one : (m : ℕ) (e : ℤ) → down e < m * up e * 2 → m * up e * 2 < down e * 3 → Is (roundTiesEvenF (fin false m e)) (pos 1)
+round-to-one m e low high =
+    dite (ℕ-discrete (n % d) 0)
+    (λ w. subst (λ (y : Float). Is y (pos 1)) (sym (rounded-whole false m e w)) (record { sign = false; size = 1; value = (refl, mul-one n ∙ all w ∙ sym (one-mul d)); number = refl }))
+    (λ b. subst (λ (y : Float). Is y (pos 1)) (sym (rounded-broken false m e b ∙ ap (λ (q : ℕ). round binary64 false q 1) one)) (round-is false 1 (pos 1) refl (lit≤ tt)))
+  where
+    n : ℕ
+    n = m * up e
+
+    d : ℕ
+    d = down e
+
+    -- at 1 or more the quotient is 1
+    over : d ≤ n → (n / d ≡ 1) × (n % d ≡ n - d)
+    over l =
+        let split : n ≡ 1 * d + (n - d) = omega (arith, one-mul d) in
+        let less : n - d < d = omega arith in
+        (ap (λ (k : ℕ). k / d) split ∙ digits-div 1 less, ap (λ (k : ℕ). k % d) split ∙ digits-mod 1 less)
+
+    all : n % d ≡ 0 → n ≡ d
+    all w = dite (decLt n d) (λ l. absurd (ne-of-lt (omega arith) (sym (sym (mod-eq-of-lt l) ∙ w)))) (λ g. let o = over (omega arith) in omega arith)
+
+    one : closest n d ≡ 1
+    one =
+        dite (decLt n d)
+        (λ l. (λ t. nearest (div-eq-of-lt l t) (compare (mod-eq-of-lt l t * 2) d)) ∙ nearest-upper 0 (n * 2) d low)
+        (λ g. let o = over (omega arith) in (λ t. nearest (o .0 t) (compare (o .1 t * 2) d)) ∙ nearest-lower 1 ((n - d) * 2) d (omega arith))

@@ -1,2 +1,2 @@
--- The limits that document 01 sets.
+-- The limits that document 01 sets, and the axis of one voxel.
 pub mod Limits

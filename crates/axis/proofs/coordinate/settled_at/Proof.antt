@@ -9,8 +9,8 @@ use Rattle.axis.proofs.coordinate.settled_at.Tie as tie
 float-of-requires : tie.Need-float-of-requires
 float-of-requires c κs = search needs
 
-folds-requires : tie.Need-folds-requires
-folds-requires c κs = search needs
+folds-on-requires : tie.Need-folds-on-requires
+folds-on-requires c κs = search needs
 
 enum-told : tie.Need-enum-told
 enum-told c = search needs
@@ -38,14 +38,14 @@ returns c =
     let f = c .before .before .before in
     let n = f .before .before .before in
     let a = n .before .args in
-    settles-unfolded (a .mode) (a .a) (a .i) (f .folds .ensures) (n .float-of .result) (n .float-of .ensures) (c .before .enum-told .given .1)
+    settles-unfolded (a .mode) (a .a) (a .i) (n .float-of .result) (n .float-of .ensures) (f .folds-on .ensures) (c .before .enum-told .given .1)
 
 returns-2 : tie.Need-returns-2
 returns-2 c =
     let f = c .before .before .before .before .before in
     let n = f .before .before .before in
     let a = n .before .args in
-    settles-padded (a .mode) (a .a) (a .i) (f .folds .ensures) (n .float-of .result) (n .float-of .ensures) (c .before .before .before .enum-told2 .given .1) (c .before .float-of2 .result) (c .map-coordinates .result) (c .before .float-of2 .ensures) (c .map-coordinates .ensures)
+    settles-padded (a .mode) (a .a) (a .i) (n .float-of .result) (n .float-of .ensures) (f .folds-on .ensures) (c .before .before .before .enum-told2 .given .1) (c .before .float-of2 .result) (c .map-coordinates .result) (c .before .float-of2 .ensures) (c .map-coordinates .ensures)
 
 returns-3 : tie.Need-returns-3
 returns-3 c =
@@ -53,14 +53,14 @@ returns-3 c =
     let n = f .before .before .before in
     let a = n .before .args in
     let l = c .before .before .before .float-of3 in
-    settles-before (a .mode) (a .a) (a .i) (f .folds .ensures) (n .float-of .result) (n .float-of .ensures) (c .before .before .before .before .enum-told3 .given .1) (l .result) _ (c .before .map-coordinates2 .result) (l .ensures) (sym two-bits) (c .before .map-coordinates2 .ensures)
+    settles-before (a .mode) (a .a) (a .i) (n .float-of .result) (n .float-of .ensures) (f .folds-on .ensures) (c .before .before .before .before .enum-told3 .given .1) (l .result) _ (c .before .map-coordinates2 .result) (l .ensures) (sym two-bits) (c .before .map-coordinates2 .ensures)
 
 pub settled-at-spec : {M : Type 1} → statement M
 settled-at-spec =
     tie.close
     (tie.spec
     float-of-requires
-    folds-requires
+    folds-on-requires
     enum-told
     enum-told-2
     float-of-requires-2

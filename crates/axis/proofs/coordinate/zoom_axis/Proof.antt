@@ -11,34 +11,15 @@ mul-t4 c = search needs
 add-t5 : tie.Need-add-t5
 add-t5 c = search needs
 
-sub-float-of : tie.Need-sub-float-of
-sub-float-of c = search needs
+zoom-ratio-requires : tie.Need-zoom-ratio-requires
+zoom-ratio-requires c κs = search needs
 
 float-of-requires : tie.Need-float-of-requires
 float-of-requires c κs = search needs
 
-sub-float-of-2 : tie.Need-sub-float-of-2
-sub-float-of-2 c = search needs
-
-float-of-requires-2 : tie.Need-float-of-requires-2
-float-of-requires-2 c κs = search needs
-
-float-of-requires-3 : tie.Need-float-of-requires-3
-float-of-requires-3 c κs = search needs
-
 returns : tie.Need-returns
 unfolding ofBits ofInt
-returns c = rw (c .before .before .float-of .ensures, c .before .float-of2 .ensures, c .float-of3 .ensures) refl
+returns c = rw (c .before .zoom-ratio .ensures, c .float-of .ensures) refl
 
 pub zoom-axis-spec : {M : Type 1} → statement M
-zoom-axis-spec =
-    tie.close
-    (tie.spec
-    mul-t4
-    add-t5
-    sub-float-of
-    float-of-requires
-    sub-float-of-2
-    float-of-requires-2
-    float-of-requires-3
-    returns)
+zoom-axis-spec = tie.close (tie.spec mul-t4 add-t5 zoom-ratio-requires float-of-requires returns)

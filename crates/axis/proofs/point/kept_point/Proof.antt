@@ -28,7 +28,7 @@ build-splines-requires : tie.Need-build-splines-requires
 build-splines-requires c κs = c .before .before .before .pre .upto
 
 neighbours-from-requires : tie.Need-neighbours-from-requires
-neighbours-from-requires c κs = let p = c .before .before .before .before .pre in let a = c .before .before .before .before .args in (p .upto, (c .before .before .is-outside .ensures, kept-asks (a .order) (a .mode) (a .len) (a .to) (c .before .before .before .first-neighbour .ensures) p (c .before .before .is-outside .ensures)))
+neighbours-from-requires c κs = let p = c .before .before .before .before .pre in let a = c .before .before .before .before .args in (p .upto, (c .before .before .is-outside .ensures, kept-asks (a .order) (a .mode) (a .len) (a .to) (c .before .before .before .first-neighbour .ensures) p (not-beside (c .before)) (c .before .before .is-outside .ensures)))
 
 returns-2 : tie.Need-returns-2
 returns-2 c = let a = c .before .before .before .before .before .args in kept-inside (a .order) (a .mode) (a .len) (a .to) (c .before .before .before .before .first-neighbour .ensures) (not-beside (c .before .before)) (c .before .build-splines .ensures) (c .neighbours-from .ensures)

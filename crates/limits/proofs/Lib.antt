@@ -1,0 +1,2 @@
+-- The laws of the axis of one voxel.
+pub mod Singles
