@@ -8,6 +8,7 @@ use borrow.Rule.Slice.PartMut.{same-len-mid}
 use lib.Arith.{digits-lt, digits-div, digits-mod}
 use lib.ListN.{length, getD, take, drop}
 use lib.Ieee.{Float, nan}
+use Rattle.limits.specs.Limits.{edgeOf, wideOf}
 use Rattle.lists.specs.Bookkeeping.{Filled}
 use Rattle.lists.proofs.Tabulated.{getD-tabulate, is-tabulate}
 use Rattle.lists.proofs.Stretches.{next, splice, in-part}
@@ -18,7 +19,7 @@ use Rattle.edge.specs.Edge.{clamped, paddedDims, padded}
 use Rattle.edge.specs.Bookkeeping.{paddedRow, paddedPlane}
 
 pub clamped-within : (n k : ℕ) → 1 ≤ n → clamped n k < n
-clamped-within n k h = omega (arith, min-le-right (k - 12) (n - 1))
+clamped-within n k h = omega (arith, min-le-right (k - edgeOf n) (n - 1))
 
 -- what place m of the padded whole copies
 abbrev pub copies : (n w W : ℕ) → (ℕ → ℕ) → List Float → ℕ → Float
@@ -56,26 +57,26 @@ module _ (n w W : ℕ) (inner : ℕ → ℕ) (xs : List Float) where
         }
 
 -- ---- rows
-pub at-row : (row : ℕ) (xs : List Float) → length xs ≡ row → Filled (λ (m : ℕ). at xs (clamped row m)) nan (paddedRow xs) (row + 24)
+pub at-row : (row : ℕ) {wide : ℕ} → wide ≡ wideOf row → (xs : List Float) → length xs ≡ row → Filled (λ (m : ℕ). at xs (clamped row m)) nan (paddedRow xs) wide
 unfolding paddedRow
-at-row row xs e m h = getD-tabulate (length xs + 24) _ nan m (rw e h) ∙ rw e
+at-row row w xs e m h = getD-tabulate (wideOf (length xs)) _ nan m (rw e (rw w at h)) ∙ rw e
 
-pub is-row : (xs to : List Float) → length to ≡ length xs + 24 → Filled (λ (m : ℕ). at xs (clamped (length xs) m)) nan to (length xs + 24) → to ≡ paddedRow xs
+pub is-row : (xs to : List Float) → length to ≡ wideOf (length xs) → Filled (λ (m : ℕ). at xs (clamped (length xs) m)) nan to (wideOf (length xs)) → to ≡ paddedRow xs
 unfolding paddedRow
 is-row xs to e h = is-tabulate _ nan to _ e h
 
 -- ---- planes: the place in a plane that place m of the padded plane copies
 abbrev pub inPlane : ℕ → ℕ → ℕ → ℕ
-inPlane rows row m = clamped rows (m / (row + 24)) * row + clamped row (m % (row + 24))
+inPlane rows row m = clamped rows (m / wideOf row) * row + clamped row (m % wideOf row)
 
 pub in-plane : (rows row m : ℕ) → 1 ≤ rows → 1 ≤ row → inPlane rows row m < rows * row
 in-plane rows row m h l = digits-lt (clamped-within rows _ h) (clamped-within row _ l)
 
-pub at-plane : (rows row : ℕ) (xs : List Float) → Filled (λ (m : ℕ). at xs (inPlane rows row m)) nan (paddedPlane rows row xs) ((rows + 24) * (row + 24))
+pub at-plane : (rows row : ℕ) {wide : ℕ} → wide ≡ wideOf rows * wideOf row → (xs : List Float) → Filled (λ (m : ℕ). at xs (inPlane rows row m)) nan (paddedPlane rows row xs) wide
 unfolding paddedPlane
-at-plane rows row xs m h = getD-tabulate ((rows + 24) * (row + 24)) _ nan m h
+at-plane rows row w xs m h = getD-tabulate (wideOf rows * wideOf row) _ nan m (rw w at h)
 
-pub is-plane : (rows row : ℕ) (xs to : List Float) → length to ≡ (rows + 24) * (row + 24) → Filled (copies rows row (row + 24) (clamped row) xs) nan to ((rows + 24) * (row + 24)) → to ≡ paddedPlane rows row xs
+pub is-plane : (rows row : ℕ) (xs to : List Float) → length to ≡ wideOf rows * wideOf row → Filled (copies rows row (wideOf row) (clamped row) xs) nan to (wideOf rows * wideOf row) → to ≡ paddedPlane rows row xs
 unfolding paddedPlane
 is-plane rows row xs to e h = is-tabulate _ nan to _ e h
 
@@ -83,12 +84,12 @@ is-plane rows row xs to e h = is-tabulate _ nan to _ e h
 abbrev pub planeOf : List ℕ → ℕ
 planeOf d = getD d 1 0 * getD d 2 0
 
-abbrev pub wideOf : List ℕ → ℕ
-wideOf d = (getD d 1 0 + 24) * (getD d 2 0 + 24)
+abbrev pub widePlaneOf : List ℕ → ℕ
+widePlaneOf d = wideOf (getD d 1 0) * wideOf (getD d 2 0)
 
 regrouped : (s d₁ d₂ a b : ℕ) → s * (d₁ * d₂) + (a * d₂ + b) ≡ (s * d₁ + a) * d₂ + b
 regrouped s d₁ d₂ a b = omega (arith, add-mul (s * d₁) a d₂, mul-assoc s d₁ d₂)
 
-pub is-padded : (d : List ℕ) (xs to : List Float) → length to ≡ countOf (paddedDims d) → Filled (copies (getD d 0 0) (planeOf d) (wideOf d) (inPlane (getD d 1 0) (getD d 2 0)) xs) nan to ((getD d 0 0 + 24) * wideOf d) → to ≡ padded d xs
+pub is-padded : (d : List ℕ) (xs to : List Float) → length to ≡ countOf (paddedDims d) → Filled (copies (getD d 0 0) (planeOf d) (widePlaneOf d) (inPlane (getD d 1 0) (getD d 2 0)) xs) nan to (wideOf (getD d 0 0) * widePlaneOf d) → to ≡ padded d xs
 unfolding padded
 is-padded d xs to e h = is-tabulate _ nan to _ e (λ m l. h m l ∙ ap (λ (i : ℕ). at xs i) (regrouped _ (getD d 1 0) (getD d 2 0) _ _))

@@ -1,26 +1,30 @@
-// The pad of Nearest and Replicate: twelve edge copies on every side of every axis.
+// The pad of Nearest and Replicate: twelve edge copies on every side of every axis but a single slice.
 ghost use mathlib.Core.Path.{_≡_};
 ghost use Prim.Native.Nat.{_+_, _*_, _≤_, _<_};
 ghost use lib.ListN.{length};
+ghost use Rattle.limits.specs.Limits.{longestPadded, wideOf};
 ghost use Rattle.prefilter.specs.Volume.{countOf};
 ghost use Rattle.prefilter.specs.Bookkeeping.{Sized};
 ghost use Rattle.edge.specs.Edge.{clamped, padded, paddedDims};
 ghost use Rattle.edge.specs.Bookkeeping.{paddedRow, paddedPlane};
+use limits::edge_of;
+use limits::wide_of;
 
 // The index that padded index k copies, on an axis of n voxels.
 fn clamp(n: usize, k: usize) -> usize
     requires { ⌜ 1 ≤ n ⌝ }
     ensures { λ r. ⌜ r ≡ clamped n k ⌝ }
 {
-    if k < 12 {
+    let edge = edge_of(n);
+    if k < edge {
         return 0;
     }
-    if k - 12 < n { k - 12 } else { n - 1 }
+    if k - edge < n { k - edge } else { n - 1 }
 }
 
 fn pad_row(to: &mut [f64], from: &[f64])
     requires { ⌜ 1 ≤ length (now from) ⌝ }
-    requires { ⌜ length (now to) ≡ length (now from) + 24 ⌝ }
+    requires { ⌜ length (now to) ≡ wideOf (length (now from)) ⌝ }
     ensures { λ _. ⌜ now (to .exit) ≡ paddedRow (now (from .entry)) ⌝ }
 {
     let n = from.len();
@@ -32,14 +36,16 @@ fn pad_row(to: &mut [f64], from: &[f64])
 }
 
 fn pad_plane(to: &mut [f64], from: &[f64], rows: usize, row: usize)
-    requires { ⌜ (1 ≤ rows) × (1 ≤ row) ⌝ }
+    requires { ⌜ (1 ≤ rows) × (rows ≤ longestPadded) ⌝ }
+    requires { ⌜ (1 ≤ row) × (row ≤ longestPadded) ⌝ }
     requires { ⌜ length (now from) ≡ rows * row ⌝ }
-    requires { ⌜ length (now to) ≡ (rows + 24) * (row + 24) ⌝ }
+    requires { ⌜ length (now to) ≡ wideOf rows * wideOf row ⌝ }
     ensures { λ _. ⌜ now (to .exit) ≡ paddedPlane rows row (now (from .entry)) ⌝ }
 {
-    let wide = row + 24;
+    let wide = wide_of(row);
+    let n = wide_of(rows);
     let mut j = 0;
-    while j < rows + 24 {
+    while j < n {
         let t = j * wide;
         let s = clamp(rows, j) * row;
         pad_row(&mut to[t..t + wide], &from[s..s + row]);
@@ -47,7 +53,7 @@ fn pad_plane(to: &mut [f64], from: &[f64], rows: usize, row: usize)
     }
 }
 
-// The input, with twelve copies of its edge on every side, into a longer buffer.
+// The input, with the copies of its edge on every side, into a longer buffer.
 pub fn pad(to: &mut [f64], from: &[f64], dims: [usize; 3])
     requires { ⌜ Sized dims (length (now from)) ⌝ }
     requires { ⌜ length (now to) ≡ countOf (paddedDims dims) ⌝ }
@@ -56,9 +62,10 @@ pub fn pad(to: &mut [f64], from: &[f64], dims: [usize; 3])
     let rows = dims[1];
     let row = dims[2];
     let plane = rows * row;
-    let wide = (rows + 24) * (row + 24);
+    let wide = wide_of(rows) * wide_of(row);
+    let n = wide_of(dims[0]);
     let mut i = 0;
-    while i < dims[0] + 24 {
+    while i < n {
         let t = i * wide;
         let s = clamp(dims[0], i) * plane;
         pad_plane(&mut to[t..t + wide], &from[s..s + plane], rows, row);

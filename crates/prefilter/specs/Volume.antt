@@ -5,6 +5,7 @@ use mathlib.Core.Bool.{cond}
 use lib.Dec.{eqb}
 use lib.ListN.{getD}
 use lib.Ieee.{Float}
+use Rattle.limits.specs.Limits.{single}
 use Rattle.border.specs.declared.BorderMode.{BorderMode}
 use Rattle.poles.specs.Poles.{polesOf, gainOf}
 use Rattle.lane.specs.Lane.{reflects, filterLane}
@@ -17,9 +18,12 @@ lengthOf axis d = getD d axis 0
 abbrev pub strideOf : ℕ → List ℕ → ℕ
 strideOf axis d = cond (eqb axis 0) (getD d 1 0 * getD d 2 0) (cond (eqb axis 1) (getD d 2 0) 1)
 
+-- a single slice "is not filtered" (#106): its lanes, of one number each, stay as they are
 unfoldable pub filterAxis : BorderMode → ℕ → List ℕ → ℕ → List Float → List Float
 unfolding filterAlong filterLane polesOf gainOf
-filterAxis mode order d axis xs = filterAlong (filterLane (reflects mode) (polesOf order) (gainOf (polesOf order))) (lengthOf axis d) (strideOf axis d) xs
+filterAxis mode order d axis xs =
+    cond (single (lengthOf axis d)) xs
+    (filterAlong (filterLane (reflects mode) (polesOf order) (gainOf (polesOf order))) (lengthOf axis d) (strideOf axis d) xs)
 
 unfoldable pub filterVolume : BorderMode → ℕ → List ℕ → List Float → List Float
 unfolding filterAxis

@@ -1,16 +1,19 @@
 // The spline prefilter of a volume, in place: along one axis, and along the three in turn.
 ghost use mathlib.Core.Path.{_≡_};
+ghost use mathlib.Core.Bool.{false};
 ghost use Prim.Native.Nat.{_*_, _≤_};
 ghost use lib.ListN.{length};
+ghost use Rattle.limits.specs.Limits.{single};
 ghost use Rattle.lane.specs.Lane.{reflects, filterLane};
 ghost use Rattle.poles.specs.Bookkeeping.{polesIn, Sound};
 ghost use Rattle.lanes.specs.Along.{filterAlong};
-ghost use Rattle.prefilter.specs.Volume.{filterAxis, filterVolume};
+ghost use Rattle.prefilter.specs.Volume.{lengthOf, filterAxis, filterVolume};
 ghost use Rattle.prefilter.specs.Bookkeeping.{Sized};
 ghost use Rattle.lanes.specs.Bookkeeping.{Grid};
 use border::BorderMode;
 use lanes::filter_lanes;
 use limits::LONGEST_PADDED;
+use limits::is_single;
 use poles::Poles;
 use poles::filter_gain;
 use poles::get_filter_poles;
@@ -72,10 +75,10 @@ fn filter_blocks(
     }
 }
 
-// The Rust's `_spline_filter1d`.
-pub fn filter_axis(data: &mut [f64], dims: [usize; 3], axis: usize, order: usize, mode: BorderMode)
+// The lanes along an axis that is no single slice.
+fn filter_long(data: &mut [f64], dims: [usize; 3], axis: usize, order: usize, mode: BorderMode)
     requires { ⌜ Sized dims (length (now «data»)) ⌝ }
-    requires { ⌜ axis ≤ 2 ⌝ }
+    requires { ⌜ (axis ≤ 2) × (single (lengthOf axis dims) ≡ false) ⌝ }
     requires { ⌜ (2 ≤ order) × (order ≤ 5) ⌝ }
     ensures { λ _. ⌜ now («data» .exit) ≡ filterAxis mode order dims axis (now («data» .entry)) ⌝ }
 {
@@ -111,6 +114,19 @@ pub fn filter_axis(data: &mut [f64], dims: [usize; 3], axis: usize, order: usize
             reflect,
         ),
     }
+}
+
+// The Rust's `_spline_filter1d`.
+pub fn filter_axis(data: &mut [f64], dims: [usize; 3], axis: usize, order: usize, mode: BorderMode)
+    requires { ⌜ Sized dims (length (now «data»)) ⌝ }
+    requires { ⌜ axis ≤ 2 ⌝ }
+    requires { ⌜ (2 ≤ order) × (order ≤ 5) ⌝ }
+    ensures { λ _. ⌜ now («data» .exit) ≡ filterAxis mode order dims axis (now («data» .entry)) ⌝ }
+{
+    if is_single(dims[axis]) {
+        return;
+    }
+    filter_long(data, dims, axis, order, mode);
 }
 
 pub fn filter_volume(data: &mut [f64], dims: [usize; 3], order: usize, mode: BorderMode)

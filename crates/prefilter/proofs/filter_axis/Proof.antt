@@ -1,140 +1,39 @@
--- `prefilter::filter_axis` meets its contract: each arm filters along its axis' lanes.
-use Prim.Native.Nat.{ℕ}
-use mathlib.Core.Path.{_≡_}
-use mathlib.Core.List.{List}
+-- `prefilter::filter_axis` meets its contract: the lanes of a single slice are left alone.
+use mathlib.Core.Path.{_∙_, sym}
+use Rattle.prefilter.proofs.Axes.{along-single}
 use borrow.Author.Needs.{needs}
-use native.Mathlib.Omega.{arith}
-use lib.Dec.{lit≤}
-use lib.Ieee.{Float}
-use Rattle.poles.specs.Bookkeeping.{polesIn, Sound}
-use Rattle.lane.specs.Lane.{filterLane}
-use Rattle.lanes.specs.Along.{filterAlong}
-use Rattle.prefilter.specs.Volume.{filterAxis, lengthOf, strideOf}
-use Rattle.prefilter.proofs.Axes.{plane-small, across, across-count, down, down-count, rows, some, along-axis}
 use Rattle.prefilter.proofs.filter_axis.Statement.{statement}
 use Rattle.prefilter.proofs.filter_axis.Tie as tie
 
--- ---- where the arms part
-abbrev start : tie.After-reflects → tie.Start
-start c = c .before .before .before .before
+mul-is-single : tie.Need-mul-is-single
+mul-is-single c = search needs
 
-sound : (c : tie.After-reflects) → Sound (c .before .before .get-filter-poles .result)
-sound c = c .before .before .get-filter-poles .ensures .0
+array-read-is-single : tie.Need-array-read-is-single
+array-read-is-single c = search needs
 
-along : (c : tie.After-reflects) (known : ℕ) (ys : List Float) → let a = start c .args in
-    a .axis ≡ known →
-    ys ≡ filterAlong (filterLane (c .reflects .result) (polesIn (c .before .before .get-filter-poles .result)) (c .before .filter-gain .result)) (lengthOf known (a .t2)) (strideOf known (a .t2)) (a .«data» .now) →
-    ys ≡ filterAxis (a .mode) (a .order) (a .t2) (a .axis) (a .«data» .now)
-along c known ys e h =
-    let a = start c .args in
-    along-axis (a .mode) (a .order) (a .t2) (a .«data» .now) e (c .reflects .ensures) (c .before .before .get-filter-poles .ensures .1) (c .before .filter-gain .ensures) h
+is-single-requires : tie.Need-is-single-requires
+is-single-requires c κs = search needs
 
-get-filter-poles-requires : tie.Need-get-filter-poles-requires
-get-filter-poles-requires c κs = search needs
+returns : tie.Need-returns
+returns c = let a = c .before .before .before .args in sym (along-single (a .mode) (a .order) (a .t2) (a .axis) (a .«data» .now) (sym (c .before .is-single .ensures) ∙ c .if1 .taken))
 
-filter-gain-requires : tie.Need-filter-gain-requires
-filter-gain-requires c κs = search needs
-
-reflects-requires : tie.Need-reflects-requires
-reflects-requires c κs = search needs
-
-array-read-plane : tie.Need-array-read-plane
-array-read-plane c = search needs
-
-array-read-plane-2 : tie.Need-array-read-plane-2
-array-read-plane-2 c = search needs
-
-mul-plane : tie.Need-mul-plane
-mul-plane c = omega (arith, plane-small (start c .pre .0))
-
-array-read-filter-blocks : tie.Need-array-read-filter-blocks
-array-read-filter-blocks c = search needs
-
-filter-blocks-requires : tie.Need-filter-blocks-requires
-filter-blocks-requires c κs =
-    let s = c .before .before in
-    let z = start s .pre .0 in
-    (across z, ((lit≤ tt, across-count z), sound s))
-
-array-read-filter-blocks-2 : tie.Need-array-read-filter-blocks-2
-array-read-filter-blocks-2 c = search needs
-
-array-read-filter-blocks-3 : tie.Need-array-read-filter-blocks-3
-array-read-filter-blocks-3 c = search needs
-
-array-read-filter-blocks-4 : tie.Need-array-read-filter-blocks-4
-array-read-filter-blocks-4 c = search needs
-
-array-read-filter-blocks-5 : tie.Need-array-read-filter-blocks-5
-array-read-filter-blocks-5 c = search needs
-
-filter-blocks-requires-2 : tie.Need-filter-blocks-requires-2
-filter-blocks-requires-2 c κs =
-    let s = c .before .before in
-    let z = start s .pre .0 in
-    (down z, ((some z 0 (lit≤ tt), down-count z), sound s))
-
-array-read-filter-blocks-6 : tie.Need-array-read-filter-blocks-6
-array-read-filter-blocks-6 c = search needs
-
-array-read-filter-blocks-7 : tie.Need-array-read-filter-blocks-7
-array-read-filter-blocks-7 c = search needs
-
-array-read-filter-blocks-8 : tie.Need-array-read-filter-blocks-8
-array-read-filter-blocks-8 c = search needs
-
-array-read-filter-blocks-9 : tie.Need-array-read-filter-blocks-9
-array-read-filter-blocks-9 c = search needs
-
-filter-blocks-requires-3 : tie.Need-filter-blocks-requires-3
-filter-blocks-requires-3 c κs =
-    let s = c .before .before in
-    let z = start s .pre .0 in
-    (rows z, ((some z 0 (lit≤ tt), z .all), sound s))
+filter-long-requires : tie.Need-filter-long-requires
+filter-long-requires c κs = let t = c .before in let s = t .before .before .before in (s .pre .0, ((s .pre .1 .0, sym (t .before .is-single .ensures) ∙ t .if1 .left), s .pre .1 .1))
 
 same-length : tie.Need-same-length
 same-length c = search needs
 
-returns : tie.Need-returns
-returns c = along (c .before .before .before .before .before) 0 _ (c .before .before .before .before .match .keys1) (c .before .before .filter-blocks .ensures)
-
-same-length-2 : tie.Need-same-length-2
-same-length-2 c = search needs
-
 returns-2 : tie.Need-returns-2
-returns-2 c = along (c .before .before .before .before .before) 1 _ (c .before .before .before .before .match .keys2) (c .before .before .filter-blocks2 .ensures)
-
-same-length-3 : tie.Need-same-length-3
-same-length-3 c = search needs
-
-returns-3 : tie.Need-returns-3
-returns-3 c = along (c .before .before .before .before .before) 2 _ (omega arith) (c .before .before .filter-blocks3 .ensures)
+returns-2 c = search needs
 
 pub filter-axis-spec : {M : Type 1} → statement M
 filter-axis-spec =
     tie.close
     (tie.spec
-    get-filter-poles-requires
-    filter-gain-requires
-    reflects-requires
-    array-read-plane
-    array-read-plane-2
-    mul-plane
-    array-read-filter-blocks
-    filter-blocks-requires
-    array-read-filter-blocks-2
-    array-read-filter-blocks-3
-    array-read-filter-blocks-4
-    array-read-filter-blocks-5
-    filter-blocks-requires-2
-    array-read-filter-blocks-6
-    array-read-filter-blocks-7
-    array-read-filter-blocks-8
-    array-read-filter-blocks-9
-    filter-blocks-requires-3
-    same-length
+    mul-is-single
+    array-read-is-single
+    is-single-requires
     returns
-    same-length-2
-    returns-2
-    same-length-3
-    returns-3)
+    filter-long-requires
+    same-length
+    returns-2)
