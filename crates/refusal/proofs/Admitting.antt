@@ -2,12 +2,13 @@
 use Prim.Native.Nat.{ℕ, _*_, _^_, _≤_, _<_}
 use native.Mathlib.Omega.{arith}
 use mathlib.Core.Path.{_≡_, refl}
-use mathlib.Core.Bool.{Bool, true, false, not, _||_, true≢false}
+use mathlib.Core.Bool.{true, false, _||_}
 use mathlib.Core.List.{List}
 use lib.Dec.{T, ltb, lit≤, ltb→lt, eqb}
 use lib.ListN.{length, getD}
 use lib.Ieee.{Float, nan, inf, fin, up, down, lt, neg, ofInt}
-use borrow.Author.Tests.{eqb-true, ltb-false, leb-false}
+use borrow.Author.Tests.{eqb-true, ltb-false, leb-false, not-false}
+use Rattle.limits.specs.Limits.{single}
 use Rattle.exact.specs.Rounded.{num}
 use Rattle.exact.specs.Within.{Within}
 use Rattle.axis.specs.Coordinate.{shiftAxis, zoomAxis}
@@ -24,7 +25,7 @@ use Rattle.refusal.specs.Refusals.{first, placesOf, shiftChecks, zoomChe
 use Rattle.refusal.specs.Bookkeeping.{Passes}
 use Rattle.refusal.proofs.Firsts.{all-clear}
 use Rattle.lists.proofs.Somes.{none-at, or-false}
-use Rattle.request.proofs.Requests.{not-both, pad-most, good-lengths, good-zooms}
+use Rattle.request.proofs.Requests.{not-both, padding-most, good-lengths, good-outputs, good-zooms}
 
 -- ---- a shift that refusal 4 lets pass
 at-most : (n d : ℕ) → n * 1 < 1 * 2 ^ 20 * d → n ≤ 2 ^ 20 * d
@@ -46,14 +47,14 @@ unfolding badFactors
 good-shifts f e i l = good-shift (getD f i nan) (none-at (λ (i : ℕ). badShift (getD f i nan)) 3 e i l)
 
 -- ---- axes that can be reached
-module _ (order n pad : ℕ) (upto : order ≤ 5) (least : 2 ≤ n) (most : n ≤ 4096) (p : pad ≤ 12) where
+module _ (order n pad : ℕ) (upto : order ≤ 5) (least : 1 ≤ n) (most : n ≤ 4096) (p : pad ≤ 12) where
   pub shift-axis-reaches : (s : Float) → Within 20 s → Reaches order (shiftAxis n s pad)
   shift-axis-reaches s w = record {
     short = most;
     each = λ i h. record { upto = upto; least = omega arith; most = omega arith; bound = shift-reaches n s pad i w (omega arith); pad = pad-within p };
   }
 
-  pub zoom-axis-reaches : (out : ℕ) → 2 ≤ out → out ≤ 4096 → Reaches order (zoomAxis n out pad)
+  pub zoom-axis-reaches : (out : ℕ) → (single n ≡ false → 2 ≤ out) → out ≤ 4096 → Reaches order (zoomAxis n out pad)
   zoom-axis-reaches out two o = record {
     short = o;
     each = λ i h. record { upto = upto; least = omega arith; most = omega arith; bound = zoom-reaches n out pad i most two o (omega arith); pad = pad-within p };
@@ -61,11 +62,7 @@ module _ (order n pad : ℕ) (upto : order ≤ 5) (least : 2 ≤ n) (most : n �
 
 -- ---- lengths
 pub right : (a b : ℕ) → wrong a b ≡ false → a ≡ b
-right a b e = eqb-true a b (go (eqb a b) e)
-  where
-    go : (t : Bool) → not t ≡ false → t ≡ true
-    go true e = refl
-    go false e = absurd (true≢false e)
+right a b e = eqb-true a b (not-false (eqb a b) e)
 
 record Lent (r : Request) (places input output coverage work : ℕ) : Type 0 where
   all : input ≡ countOf (r .dims)
@@ -84,14 +81,14 @@ module _ (asked : Asked) (r : Request) (input : List Float) (output coverage wor
   pub shift-passes : first (shiftChecks asked r input output coverage work) ≡ Passed → Passes r (shiftAxes r) (placesOf asked (countOf (r .dims))) (length input) output coverage work
   shift-passes e =
       let h = all-clear (shiftChecks asked r input output coverage work) e in
-      let b = lent (placesOf asked (countOf (r .dims))) (h .1 .1 .1 .1 .0) in
+      let b = lent (placesOf asked (countOf (r .dims))) (h .1 .1 .1 .1 .1 .0) in
       let d = good-lengths (r .dims) (h .1 .0) in
       let s = good-shifts (r .factors) (h .1 .1 .0) in
       let o = ltb-false 5 (r .order) (h .0) in
-      let p = pad-most r refl in
-      let axis : (i : ℕ) → i < 3 → Reaches (r .order) (shiftAxis (getD (r .dims) i 0) (getD (r .factors) i nan) (padding r)) = λ i l. shift-axis-reaches (r .order) (getD (r .dims) i 0) (padding r) o (d i l .0) (d i l .1) p (getD (r .factors) i nan) (s i l) in
+      let p : (i : ℕ) → padding r i ≤ 12 = λ i. padding-most r i refl in
+      let axis : (i : ℕ) → i < 3 → Reaches (r .order) (shiftAxis (getD (r .dims) i 0) (getD (r .factors) i nan) (padding r i)) = λ i l. shift-axis-reaches (r .order) (getD (r .dims) i 0) (padding r i) o (d i l .0) (d i l .1) (p i) (getD (r .factors) i nan) (s i l) in
       record {
-        admitted = record { order = o; lengths = d; all = b .all; some = omega (arith, d 2 (lit≤ tt)); x = axis 0 (lit≤ tt); y = axis 1 (lit≤ tt); z = axis 2 (lit≤ tt); long = refl; rows = omega (arith, d 1 (lit≤ tt), p); row = omega (arith, d 2 (lit≤ tt), p) };
+        admitted = record { order = o; lengths = d; all = b .all; some = d 2 (lit≤ tt) .0; x = axis 0 (lit≤ tt); y = axis 1 (lit≤ tt); z = axis 2 (lit≤ tt); long = refl; rows = omega (arith, d 1 (lit≤ tt), p 1); row = omega (arith, d 2 (lit≤ tt), p 2) };
         values = b .values;
         codes = b .codes;
         room = b .room;
@@ -100,14 +97,14 @@ module _ (asked : Asked) (r : Request) (input : List Float) (output coverage wor
   pub zoom-passes : first (zoomChecks asked r input output coverage work) ≡ Passed → Passes r (zoomAxes r) (placesOf asked (countOf (zoomDims r))) (length input) output coverage work
   zoom-passes e =
       let h = all-clear (zoomChecks asked r input output coverage work) e in
-      let b = lent (placesOf asked (countOf (zoomDims r))) (h .1 .1 .1 .1 .1 .0) in
+      let b = lent (placesOf asked (countOf (zoomDims r))) (h .1 .1 .1 .1 .1 .1 .0) in
       let d = good-lengths (r .dims) (h .1 .0) in
-      let out = good-lengths (zoomDims r) (h .1 .1 .1 .0) in
+      let out = good-outputs (r .dims) (zoomDims r) (h .1 .1 .1 .0) (h .1 .1 .1 .1 .0) in
       let o = ltb-false 5 (r .order) (h .0) in
-      let p = pad-most r refl in
-      let axis : (i : ℕ) → i < 3 → Reaches (r .order) (zoomAxis (getD (r .dims) i 0) (getD (zoomDims r) i 0) (padding r)) = λ i l. zoom-axis-reaches (r .order) (getD (r .dims) i 0) (padding r) o (d i l .0) (d i l .1) p (getD (zoomDims r) i 0) (out i l .0) (out i l .1) in
+      let p : (i : ℕ) → padding r i ≤ 12 = λ i. padding-most r i refl in
+      let axis : (i : ℕ) → i < 3 → Reaches (r .order) (zoomAxis (getD (r .dims) i 0) (getD (zoomDims r) i 0) (padding r i)) = λ i l. zoom-axis-reaches (r .order) (getD (r .dims) i 0) (padding r i) o (d i l .0) (d i l .1) (p i) (getD (zoomDims r) i 0) (out i l .1) (out i l .0 .1) in
       record {
-        admitted = record { order = o; lengths = d; all = b .all; some = omega (arith, out 2 (lit≤ tt)); x = axis 0 (lit≤ tt); y = axis 1 (lit≤ tt); z = axis 2 (lit≤ tt); long = refl; rows = omega (arith, d 1 (lit≤ tt), p); row = omega (arith, d 2 (lit≤ tt), p) };
+        admitted = record { order = o; lengths = d; all = b .all; some = out 2 (lit≤ tt) .0 .0; x = axis 0 (lit≤ tt); y = axis 1 (lit≤ tt); z = axis 2 (lit≤ tt); long = refl; rows = omega (arith, d 1 (lit≤ tt), p 1); row = omega (arith, d 2 (lit≤ tt), p 2) };
         values = b .values;
         codes = b .codes;
         room = b .room;
@@ -115,7 +112,7 @@ module _ (asked : Asked) (r : Request) (input : List Float) (output coverage wor
 
   -- the output lengths of zoom are whole numbers, and lengths
   pub zoom-ready : first (zoomChecks asked r input output coverage work) ≡ Passed → Zoomed r × Lengths (zoomDims r)
-  zoom-ready e = let h = all-clear (zoomChecks asked r input output coverage work) e in (good-zooms r (h .1 .0) (h .1 .1 .0), good-lengths (zoomDims r) (h .1 .1 .1 .0))
+  zoom-ready e = let h = all-clear (zoomChecks asked r input output coverage work) e in (good-zooms r (h .1 .0) (h .1 .1 .0), λ i l. good-outputs (r .dims) (zoomDims r) (h .1 .1 .1 .0) (h .1 .1 .1 .1 .0) i l .0)
 
 -- ---- an index that refusal 11 lets pass
 pub good-indices : (out at : List ℕ) → first (indexChecks out at) ≡ Passed → (i : ℕ) → i < 3 → getD at i 0 < getD out i 0

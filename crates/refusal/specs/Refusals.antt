@@ -14,11 +14,11 @@ use Rattle.prefilter.specs.Volume.{countOf}
 use Rattle.request.specs.declared.Axes.{Axes}
 use Rattle.request.specs.declared.Request.{Request}
 use Rattle.request.specs.Sizes.{needed, zoomDims, shiftAxes, zoomAxes}
-use Rattle.request.specs.Conditions.{badOrder, badFilterOrder, badAxisNumber, badLength, badLengths, badShift, badZoom, badFactors, tooLarge, wrong, tooShort, wildFill, someWild, besideAny, badIndex, badIndices}
+use Rattle.request.specs.Conditions.{badOrder, badFilterOrder, badAxisNumber, badLength, badLengths, badShift, badZoom, badFactors, movesSlice, movesSlices, zoomsSlice, zoomsSlices, badOutput, badOutputs, tooLarge, wrong, tooShort, wildFill, someWild, besideAny, badIndex, badIndices}
 use Rattle.refusal.specs.declared.Asked.{Asked}
 use Rattle.refusal.specs.declared.Asked.the-variants.{Volume, Voxel}
 use Rattle.refusal.specs.declared.Refusal.{Refusal}
-use Rattle.refusal.specs.declared.Refusal.the-variants.{NotNpy, Order, AxisNumber, Length, Factor, OutputLength, Count, Buffer, Value, Beside, Index}
+use Rattle.refusal.specs.declared.Refusal.the-variants.{NotNpy, Order, AxisNumber, Length, Factor, Slice, OutputLength, Count, Buffer, Value, Beside, Index}
 use Rattle.refusal.specs.declared.Verdict.{Verdict}
 use Rattle.refusal.specs.declared.Verdict.the-variants.{Passed, Refused}
 
@@ -29,6 +29,7 @@ numberOf Order = 1
 numberOf AxisNumber = 2
 numberOf Length = 3
 numberOf Factor = 4
+numberOf Slice = 12
 numberOf OutputLength = 5
 numberOf Count = 6
 numberOf Buffer = 7
@@ -71,11 +72,13 @@ resampleChecks asked r input output coverage work out a =
     ∷ when Beside (besideAny r a)
     ∷ []
 
+-- #106: "12, a length-1 axis with another shift or a zoom to other than 1, directly after 4"
 abbrev pub shiftChecks : Asked → Request → List Float → ℕ → ℕ → ℕ → List Check
 shiftChecks asked r input output coverage work =
     when Order (badOrder (r .order))
     ∷ when Length (badLengths (r .dims))
     ∷ when Factor (badFactors badShift (r .factors))
+    ∷ when Slice (movesSlices (r .dims) (r .factors))
     ∷ resampleChecks asked r input output coverage work (r .dims) (shiftAxes r)
 
 abbrev pub zoomChecks : Asked → Request → List Float → ℕ → ℕ → ℕ → List Check
@@ -83,7 +86,8 @@ zoomChecks asked r input output coverage work =
     when Order (badOrder (r .order))
     ∷ when Length (badLengths (r .dims))
     ∷ when Factor (badFactors badZoom (r .factors))
-    ∷ when OutputLength (badLengths (zoomDims r))
+    ∷ when Slice (zoomsSlices (r .dims) (zoomDims r))
+    ∷ when OutputLength (badOutputs (r .dims) (zoomDims r))
     ∷ resampleChecks asked r input output coverage work (zoomDims r) (zoomAxes r)
 
 -- #105: "Refusals: 11, output index outside the output, after 01's nine." `value` and `code` are lengths too, `at` has an index for each axis.
@@ -109,15 +113,17 @@ shiftPointChecks n shift order prefilter mode i coordinate at weight =
     when Order (badOrder order)
     ∷ when Length (badLength n)
     ∷ when Factor (badShift shift)
-    ∷ pointChecks order mode (shiftAxis n shift (padOf mode prefilter order)) i coordinate at weight
+    ∷ when Slice (movesSlice n shift)
+    ∷ pointChecks order mode (shiftAxis n shift (padOf mode prefilter order n)) i coordinate at weight
 
 abbrev pub zoomPointChecks : ℕ → Float → ℕ → Bool → BorderMode → ℕ → ℕ → ℕ → ℕ → List Check
 zoomPointChecks n factor order prefilter mode i coordinate at weight =
     when Order (badOrder order)
     ∷ when Length (badLength n)
     ∷ when Factor (badZoom factor)
-    ∷ when OutputLength (badLength (outputLength n factor))
-    ∷ pointChecks order mode (zoomAxis n (outputLength n factor) (padOf mode prefilter order)) i coordinate at weight
+    ∷ when Slice (zoomsSlice n (outputLength n factor))
+    ∷ when OutputLength (badOutput n (outputLength n factor))
+    ∷ pointChecks order mode (zoomAxis n (outputLength n factor) (padOf mode prefilter order n)) i coordinate at weight
 
 -- "The filters check 1, 2, 3, 6, 7, 8; a Constant fill is checked there too though unused": from 3 on alike
 abbrev pub filterChecks : Request → List Float → ℕ → List Check

@@ -5,14 +5,15 @@ ghost use Rattle.refusal.specs.Refusals.{numberOf, numberBy};
 pub mod points;
 pub mod verdicts;
 
-// Document 01's nine in its order, 1 to 9, between those of document 02 that come before them, 10, and
-// after them, 11.
+// In the order in which they are looked for: document 01's nine, 1 to 9, and among them those of document
+// 02, 10 before all, 12 after 4, 11 after all.
 pub enum Refusal {
     NotNpy,
     Order,
     AxisNumber,
     Length,
     Factor,
+    Slice,
     OutputLength,
     Count,
     Buffer,
@@ -41,6 +42,7 @@ pub fn number_of(why: Refusal) -> u32
         Refusal::AxisNumber => 2,
         Refusal::Length => 3,
         Refusal::Factor => 4,
+        Refusal::Slice => 12,
         Refusal::OutputLength => 5,
         Refusal::Count => 6,
         Refusal::Buffer => 7,

@@ -16,8 +16,11 @@ use axis::point::some_beside;
 use border::BorderMode;
 use request::conditions::bad_index;
 use request::conditions::bad_length;
+use request::conditions::bad_output;
 use request::conditions::bad_shift;
 use request::conditions::bad_zoom;
+use request::conditions::moves_slice;
+use request::conditions::zooms_slice;
 
 // The lengths of the lent buffers: one coordinate, six neighbours, six weights.
 fn wrong_places(coordinate: usize, at: usize, weight: usize) -> bool
@@ -87,7 +90,10 @@ pub fn shift_point_verdict(
     if bad_shift(shift) {
         return Verdict::Refused(Refusal::Factor);
     }
-    let a = shift_axis(length, shift, pad_of(mode, prefilter, order));
+    if moves_slice(length, shift) {
+        return Verdict::Refused(Refusal::Slice);
+    }
+    let a = shift_axis(length, shift, pad_of(mode, prefilter, order, length));
     point_verdict(order, mode, a, i, coordinate, at, weight)
 }
 
@@ -114,9 +120,12 @@ pub fn zoom_point_verdict(
         return Verdict::Refused(Refusal::Factor);
     }
     let out = output_length(length, factor);
-    if bad_length(out) {
+    if zooms_slice(length, out) {
+        return Verdict::Refused(Refusal::Slice);
+    }
+    if bad_output(length, out) {
         return Verdict::Refused(Refusal::OutputLength);
     }
-    let a = zoom_axis(length, out, pad_of(mode, prefilter, order));
+    let a = zoom_axis(length, out, pad_of(mode, prefilter, order, length));
     point_verdict(order, mode, a, i, coordinate, at, weight)
 }

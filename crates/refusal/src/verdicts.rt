@@ -15,10 +15,13 @@ use request::Axes;
 use request::Request;
 use request::conditions::bad_indices;
 use request::conditions::bad_lengths;
+use request::conditions::bad_outputs;
 use request::conditions::bad_shifts;
 use request::conditions::bad_zooms;
+use request::conditions::moves_slices;
 use request::conditions::some_wild;
 use request::conditions::wild_fill;
+use request::conditions::zooms_slices;
 use request::sizes::count_of;
 use request::sizes::needed;
 use request::sizes::shift_axes;
@@ -159,6 +162,9 @@ pub fn shift_verdict(
     if bad_shifts(factors) {
         return Verdict::Refused(Refusal::Factor);
     }
+    if moves_slices(dims, factors) {
+        return Verdict::Refused(Refusal::Slice);
+    }
     resample_verdict(asked, r, input, output, coverage, work, dims, shift_axes(r))
 }
 
@@ -184,7 +190,10 @@ pub fn zoom_verdict(
         return Verdict::Refused(Refusal::Factor);
     }
     let out = zoom_dims(r);
-    if bad_lengths(out) {
+    if zooms_slices(dims, out) {
+        return Verdict::Refused(Refusal::Slice);
+    }
+    if bad_outputs(dims, out) {
         return Verdict::Refused(Refusal::OutputLength);
     }
     resample_verdict(

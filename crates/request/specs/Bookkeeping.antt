@@ -11,9 +11,9 @@ use Rattle.request.specs.declared.Request.{Request}
 abbrev pub Small : List ℕ → Type 0
 Small d = (getD d 0 0 ≤ longestPadded) × ((getD d 1 0 ≤ longestPadded) × (getD d 2 0 ≤ longestPadded))
 
--- lengths that refusal 3 or 5 lets pass
+-- lengths that refusal 3 lets pass, or 12 and 5 of an output
 abbrev pub Lengths : List ℕ → Type 0
-Lengths d = (i : ℕ) → i < 3 → (2 ≤ getD d i 0) × (getD d i 0 ≤ longest)
+Lengths d = (i : ℕ) → i < 3 → (1 ≤ getD d i 0) × (getD d i 0 ≤ longest)
 
 -- factors that refusal 4 lets pass
 abbrev pub Zoomed : Request → Type 0

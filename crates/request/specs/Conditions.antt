@@ -4,9 +4,9 @@ use mathlib.Core.Bool.{Bool, false, not, _&&_, _||_}
 use mathlib.Core.List.{List}
 use lib.Dec.{leb, ltb, eqb}
 use lib.ListN.{length, getD}
-use lib.Ieee.{Float, nan, neg, lt, le}
+use lib.Ieee.{Float, nan, neg, lt, le, eq}
 use Rattle.exact.specs.Rounded.{num}
-use Rattle.limits.specs.Limits.{longest, mostPlaces}
+use Rattle.limits.specs.Limits.{longest, single, mostPlaces}
 use Rattle.lists.specs.Some.{someBelow}
 use Rattle.border.specs.declared.BorderMode.{BorderMode}
 use Rattle.border.specs.declared.BorderMode.the-variants.{Constant, Mirror, Nearest, Reflect, Wrap, Replicate}
@@ -25,9 +25,9 @@ badFilterOrder order = ltb order 2 || ltb 5 order
 abbrev pub badAxisNumber : ℕ → Bool
 badAxisNumber axis = ltb 2 axis
 
--- "an input axis is shorter than 2 or longer than 4,096"
+-- #106: "3 is now length 0 or above 4,096"
 abbrev pub badLength : ℕ → Bool
-badLength n = ltb n 2 || ltb longest n
+badLength n = ltb n 1 || ltb longest n
 
 unfoldable pub badLengths : List ℕ → Bool
 unfolding someBelow
@@ -44,6 +44,29 @@ badZoom f = not (lt (num 0) f && le f (num 4096))
 unfoldable pub badFactors : (Float → Bool) → List Float → Bool
 unfolding someBelow
 badFactors bad f = someBelow (λ i. bad (getD f i nan)) 3
+
+-- #106: "12, a length-1 axis with another shift", than "shift 0 (either zero)", "or a zoom to other than 1"
+abbrev pub movesSlice : ℕ → Float → Bool
+movesSlice n shift = single n && not (eq shift (num 0))
+
+unfoldable pub movesSlices : List ℕ → List Float → Bool
+unfolding someBelow
+movesSlices d f = someBelow (λ i. movesSlice (getD d i 0) (getD f i nan)) 3
+
+abbrev pub zoomsSlice : ℕ → ℕ → Bool
+zoomsSlice n out = single n && not (eqb out 1)
+
+unfoldable pub zoomsSlices : List ℕ → List ℕ → Bool
+unfolding someBelow
+zoomsSlices d out = someBelow (λ i. zoomsSlice (getD d i 0) (getD out i 0)) 3
+
+-- "an output axis below 2 or above 4,096"; "Refusal 5 no longer speaks of such an axis" (#106), one of length 1
+abbrev pub badOutput : ℕ → ℕ → Bool
+badOutput n out = not (single n) && (ltb out 2 || ltb longest out)
+
+unfoldable pub badOutputs : List ℕ → List ℕ → Bool
+unfolding someBelow
+badOutputs d out = someBelow (λ i. badOutput (getD d i 0) (getD out i 0)) 3
 
 -- "input count, output count or needed work count exceeds 2^27"
 abbrev pub tooLarge : ℕ → Bool

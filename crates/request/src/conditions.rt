@@ -1,13 +1,14 @@
 // The conditions of the refusals.
 ghost use mathlib.Core.Path.{_≡_};
-ghost use Rattle.request.specs.Conditions.{badLength, badLengths, badShift, badZoom, badFactors, wild, wildFill, someWild, badIndex, badIndices};
+ghost use Rattle.request.specs.Conditions.{badLength, badLengths, movesSlice, movesSlices, zoomsSlice, zoomsSlices, badOutput, badOutputs, badShift, badZoom, badFactors, wild, wildFill, someWild, badIndex, badIndices};
 use border::BorderMode;
 use limits::LONGEST;
+use limits::is_single;
 
 pub fn bad_length(n: usize) -> bool
     ensures { λ r. ⌜ r ≡ badLength n ⌝ }
 {
-    if n < 2 {
+    if n < 1 {
         return true;
     }
     n > LONGEST
@@ -69,6 +70,69 @@ pub fn bad_zooms(f: [f64; 3]) -> bool
         return true;
     }
     bad_zoom(f[2])
+}
+
+// Whether a single slice is shifted: by a number that is neither 0.0 nor -0.0.
+pub fn moves_slice(n: usize, shift: f64) -> bool
+    ensures { λ r. ⌜ r ≡ movesSlice n shift ⌝ }
+{
+    if is_single(n) { shift != 0.0 } else { false }
+}
+
+pub fn moves_slices(d: [usize; 3], f: [f64; 3]) -> bool
+    ensures { λ r. ⌜ r ≡ movesSlices d f ⌝ }
+{
+    if moves_slice(d[0], f[0]) {
+        return true;
+    }
+    if moves_slice(d[1], f[1]) {
+        return true;
+    }
+    moves_slice(d[2], f[2])
+}
+
+// Whether a single slice is zoomed to another length.
+pub fn zooms_slice(n: usize, out: usize) -> bool
+    ensures { λ r. ⌜ r ≡ zoomsSlice n out ⌝ }
+{
+    if is_single(n) { out != 1 } else { false }
+}
+
+pub fn zooms_slices(d: [usize; 3], out: [usize; 3]) -> bool
+    ensures { λ r. ⌜ r ≡ zoomsSlices d out ⌝ }
+{
+    if zooms_slice(d[0], out[0]) {
+        return true;
+    }
+    if zooms_slice(d[1], out[1]) {
+        return true;
+    }
+    zooms_slice(d[2], out[2])
+}
+
+// An output length of zoom, on an axis that is no single slice.
+pub fn bad_output(n: usize, out: usize) -> bool
+    ensures { λ r. ⌜ r ≡ badOutput n out ⌝ }
+{
+    if is_single(n) {
+        return false;
+    }
+    if out < 2 {
+        return true;
+    }
+    out > LONGEST
+}
+
+pub fn bad_outputs(d: [usize; 3], out: [usize; 3]) -> bool
+    ensures { λ r. ⌜ r ≡ badOutputs d out ⌝ }
+{
+    if bad_output(d[0], out[0]) {
+        return true;
+    }
+    if bad_output(d[1], out[1]) {
+        return true;
+    }
+    bad_output(d[2], out[2])
 }
 
 fn is_wild(v: f64) -> bool

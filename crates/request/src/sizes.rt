@@ -1,7 +1,8 @@
 // The lengths, counts and axes of a request.
 ghost use mathlib.Core.Path.{_≡_};
+ghost use Prim.Native.Nat.{_<_};
 ghost use Rattle.prefilter.specs.Volume.{countOf};
-ghost use Rattle.request.specs.Sizes.{filters, sourceDims, needed, zoomDims, shiftAxes, zoomAxes};
+ghost use Rattle.request.specs.Sizes.{filters, padding, sourceLength, sourceDims, needed, zoomDims, shiftAxes, zoomAxes};
 ghost use Rattle.request.specs.Bookkeeping.{Small, Lengths, Zoomed};
 use crate::Axes;
 use crate::Request;
@@ -23,15 +24,34 @@ pub fn filters(r: Request) -> bool
     if r.prefilter { r.order > 1 } else { false }
 }
 
+// How many edge copies stand on each side of an axis.
+pub fn padding(r: Request, axis: usize) -> usize
+    requires { ⌜ axis < 3 ⌝ }
+    ensures { λ n. ⌜ n ≡ padding r axis ⌝ }
+{
+    let d = r.dims;
+    let mode = r.mode;
+    pad_of(mode, r.prefilter, r.order, d[axis])
+}
+
+fn source_length(r: Request, axis: usize) -> usize
+    requires { ⌜ Lengths (r .dims) × (axis < 3) ⌝ }
+    ensures { λ n. ⌜ n ≡ sourceLength r axis ⌝ }
+{
+    let d = r.dims;
+    d[axis] + 2 * padding(r, axis)
+}
+
 // The lengths of what the sums read.
 pub fn source_dims(r: Request) -> [usize; 3]
     requires { ⌜ Lengths (r .dims) ⌝ }
     ensures { λ d. ⌜ d ≡ sourceDims r ⌝ }
 {
-    let d = r.dims;
-    let mode = r.mode;
-    let pad = pad_of(mode, r.prefilter, r.order);
-    [d[0] + 2 * pad, d[1] + 2 * pad, d[2] + 2 * pad]
+    [
+        source_length(r, 0),
+        source_length(r, 1),
+        source_length(r, 2),
+    ]
 }
 
 // How many places of work are needed.
@@ -65,12 +85,10 @@ pub fn shift_axes(r: Request) -> Axes
 {
     let d = r.dims;
     let f = r.factors;
-    let mode = r.mode;
-    let pad = pad_of(mode, r.prefilter, r.order);
     Axes {
-        x: shift_axis(d[0], f[0], pad),
-        y: shift_axis(d[1], f[1], pad),
-        z: shift_axis(d[2], f[2], pad),
+        x: shift_axis(d[0], f[0], padding(r, 0)),
+        y: shift_axis(d[1], f[1], padding(r, 1)),
+        z: shift_axis(d[2], f[2], padding(r, 2)),
     }
 }
 
@@ -80,11 +98,9 @@ pub fn zoom_axes(r: Request, out: [usize; 3]) -> Axes
     ensures { λ a. ⌜ a ≡ zoomAxes r ⌝ }
 {
     let d = r.dims;
-    let mode = r.mode;
-    let pad = pad_of(mode, r.prefilter, r.order);
     Axes {
-        x: zoom_axis(d[0], out[0], pad),
-        y: zoom_axis(d[1], out[1], pad),
-        z: zoom_axis(d[2], out[2], pad),
+        x: zoom_axis(d[0], out[0], padding(r, 0)),
+        y: zoom_axis(d[1], out[1], padding(r, 1)),
+        z: zoom_axis(d[2], out[2], padding(r, 2)),
     }
 }

@@ -4,8 +4,9 @@ use mathlib.Core.Bool.{false}
 use lib.Dec.{ltb}
 use borrow.Author.Tests.{lt-ltb, le-ltb}
 use borrow.Author.Needs.{needs}
-use Rattle.request.specs.Conditions.{badLength, badShift}
-use Rattle.request.proofs.Requests.{most-padded, good-length}
+use Rattle.axis.proofs.Coordinates.{pad-most}
+use Rattle.request.specs.Conditions.{badLength, badShift, movesSlice}
+use Rattle.request.proofs.Requests.{good-length}
 use Rattle.refusal.proofs.points.shift_point_verdict.Statement.{statement}
 use Rattle.refusal.proofs.points.shift_point_verdict.Tie as tie
 
@@ -34,23 +35,33 @@ returns-3 c = let e = c .before .before in simp (order (e .before .before), long
 shifts : (c : tie.Else3) → badShift (c .before .before .before .before .before .args .shift) ≡ false
 shifts c = sym (c .before .bad-shift .ensures) ∙ c .if3 .left
 
+moves-slice-requires : tie.Need-moves-slice-requires
+moves-slice-requires c κs = search needs
+
+returns-4 : tie.Need-returns-4
+returns-4 c = let f = c .before .before in let e = f .before .before in simp (order (e .before .before), long e, shifts f, sym (c .before .moves-slice .ensures) ∙ c .if4 .taken)
+
+stays : (c : tie.Else4) → let a = c .before .before .before .before .before .before .before .args in movesSlice (a .length) (a .shift) ≡ false
+stays c = sym (c .before .moves-slice .ensures) ∙ c .if4 .left
+
 pad-of-requires : tie.Need-pad-of-requires
 pad-of-requires c κs = search needs
 
 shift-axis-requires : tie.Need-shift-axis-requires
 shift-axis-requires c κs =
-    let e = c .before .before .before in
+    let e = c .before .before .before .before .before in
     let a = e .before .before .before .args in
-    (good-length (a .length) (long e) .1, most-padded (a .mode) (a .prefilter) (a .order) (c .pad-of .ensures))
+    (good-length (a .length) (long e) .1, pad-most (a .mode) (a .prefilter) (a .order) (a .length) (c .pad-of .ensures))
 
 point-verdict-requires : tie.Need-point-verdict-requires
 point-verdict-requires c κs = search needs
 
-returns-4 : tie.Need-returns-4
-returns-4 c =
-    let f = c .before .before .before in
+returns-5 : tie.Need-returns-5
+returns-5 c =
+    let g = c .before .before .before in
+    let f = g .before .before in
     let e = f .before .before in
-    c .point-verdict .ensures ∙ simp (order (e .before .before), long e, shifts f, c .before .shift-axis .ensures, c .before .before .pad-of .ensures)
+    c .point-verdict .ensures ∙ simp (order (e .before .before), long e, shifts f, stays g, c .before .shift-axis .ensures, c .before .before .pad-of .ensures)
 
 pub shift-point-verdict-spec : {M : Type 1} → statement M
 shift-point-verdict-spec =
@@ -61,7 +72,9 @@ shift-point-verdict-spec =
     returns-2
     bad-shift-requires
     returns-3
+    moves-slice-requires
+    returns-4
     pad-of-requires
     shift-axis-requires
     point-verdict-requires
-    returns-4)
+    returns-5)

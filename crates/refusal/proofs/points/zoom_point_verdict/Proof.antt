@@ -1,13 +1,13 @@
 -- `refusal::points::zoom_point_verdict` meets its contract.
 use mathlib.Core.Path.{_≡_, sym, ap, _∙_}
 use mathlib.Core.Bool.{false}
-use native.Mathlib.Omega.{arith}
 use lib.Dec.{ltb}
 use borrow.Author.Tests.{lt-ltb, le-ltb}
 use borrow.Author.Needs.{needs}
 use Rattle.axis.specs.Length.{outputLength}
-use Rattle.request.specs.Conditions.{badLength, badZoom}
-use Rattle.request.proofs.Requests.{most-padded, good-length, good-zoom}
+use Rattle.axis.proofs.Coordinates.{pad-most}
+use Rattle.request.specs.Conditions.{badLength, badZoom, zoomsSlice, badOutput}
+use Rattle.request.proofs.Requests.{good-length, good-output, good-zoom}
 use Rattle.refusal.proofs.points.zoom_point_verdict.Statement.{statement}
 use Rattle.refusal.proofs.points.zoom_point_verdict.Tie as tie
 
@@ -39,40 +39,55 @@ zooms c = sym (c .before .bad-zoom .ensures) ∙ c .if3 .left
 output-length-requires : tie.Need-output-length-requires
 output-length-requires c κs = good-zoom _ _ (long (c .before .before)) (zooms c)
 
-bad-length-requires-2 : tie.Need-bad-length-requires-2
-bad-length-requires-2 c κs = search needs
+zooms-slice-requires : tie.Need-zooms-slice-requires
+zooms-slice-requires c κs = search needs
 
 -- the output length that is tested is the specified one
-outs : (c : tie.After-bad-length2) → let a = c .before .before .before .before .before .before .before .args in c .bad-length2 .result ≡ badLength (outputLength (a .length) (a .factor))
-outs c = c .bad-length2 .ensures ∙ ap badLength (c .before .output-length .ensures)
+slice : (c : tie.After-zooms-slice) → let a = c .before .before .before .before .before .before .before .args in c .zooms-slice .result ≡ zoomsSlice (a .length) (outputLength (a .length) (a .factor))
+slice c = c .zooms-slice .ensures ∙ ap (zoomsSlice (c .before .before .before .before .before .before .before .args .length)) (c .before .output-length .ensures)
 
 returns-4 : tie.Need-returns-4
 returns-4 c =
     let f = c .before .before .before in
     let e = f .before .before in
-    simp (order (e .before .before), long e, zooms f, sym (outs (c .before)) ∙ c .if4 .taken)
+    simp (order (e .before .before), long e, zooms f, sym (slice (c .before)) ∙ c .if4 .taken)
+
+bad-output-requires : tie.Need-bad-output-requires
+bad-output-requires c κs = search needs
+
+outs : (c : tie.After-bad-output) → let a = c .before .before .before .before .before .before .before .before .before .args in c .bad-output .result ≡ badOutput (a .length) (outputLength (a .length) (a .factor))
+outs c = c .bad-output .ensures ∙ ap (badOutput (c .before .before .before .before .before .before .before .before .before .args .length)) (c .before .before .before .output-length .ensures)
+
+returns-5 : tie.Need-returns-5
+returns-5 c =
+    let g = c .before .before in
+    let f = g .before .before .before in
+    let e = f .before .before in
+    simp (order (e .before .before), long e, zooms f, sym (slice (g .before)) ∙ g .if4 .left, sym (outs (c .before)) ∙ c .if5 .taken)
 
 pad-of-requires : tie.Need-pad-of-requires
 pad-of-requires c κs = search needs
 
 zoom-axis-requires : tie.Need-zoom-axis-requires
 zoom-axis-requires c κs =
-    let o = c .before .before in
-    let e = o .before .before .before .before in
+    let h = c .before in
+    let g = h .before .before in
+    let o = g .before .before in
+    let e = o .before .before .before in
     let a = e .before .before .before .args in
-    let n = good-length (a .length) (long e) in
-    let m = good-length (o .before .output-length .result) (sym (o .bad-length2 .ensures) ∙ c .before .if4 .left) in
-    ((omega arith, n .1), (omega arith, most-padded (a .mode) (a .prefilter) (a .order) (c .pad-of .ensures)))
+    let m = good-output (a .length) (o .output-length .result) (sym (g .before .zooms-slice .ensures) ∙ g .if4 .left) (sym (h .before .bad-output .ensures) ∙ h .if5 .left) in
+    (good-length (a .length) (long e), (m .0 .0, pad-most (a .mode) (a .prefilter) (a .order) (a .length) (c .pad-of .ensures)))
 
 point-verdict-requires : tie.Need-point-verdict-requires
 point-verdict-requires c κs = search needs
 
-returns-5 : tie.Need-returns-5
-returns-5 c =
-    let g = c .before .before .before in
+returns-6 : tie.Need-returns-6
+returns-6 c =
+    let h = c .before .before .before in
+    let g = h .before .before in
     let f = g .before .before .before in
     let e = f .before .before in
-    c .point-verdict .ensures ∙ simp (order (e .before .before), long e, zooms f, sym (outs (g .before)) ∙ g .if4 .left, c .before .zoom-axis .ensures, c .before .before .pad-of .ensures, g .before .before .output-length .ensures)
+    c .point-verdict .ensures ∙ simp (order (e .before .before), long e, zooms f, sym (slice (g .before)) ∙ g .if4 .left, sym (outs (h .before)) ∙ h .if5 .left, c .before .zoom-axis .ensures, c .before .before .pad-of .ensures, g .before .before .output-length .ensures)
 
 pub zoom-point-verdict-spec : {M : Type 1} → statement M
 zoom-point-verdict-spec =
@@ -84,9 +99,11 @@ zoom-point-verdict-spec =
     bad-zoom-requires
     returns-3
     output-length-requires
-    bad-length-requires-2
+    zooms-slice-requires
     returns-4
+    bad-output-requires
+    returns-5
     pad-of-requires
     zoom-axis-requires
     point-verdict-requires
-    returns-5)
+    returns-6)

@@ -4,7 +4,7 @@ use mathlib.Core.Bool.{false}
 use lib.Dec.{ltb}
 use borrow.Author.Tests.{lt-ltb, le-ltb}
 use borrow.Author.Needs.{needs}
-use Rattle.request.specs.Conditions.{badLengths, badShift, badFactors}
+use Rattle.request.specs.Conditions.{badLengths, badShift, badFactors, movesSlices}
 use Rattle.request.proofs.Requests.{good-lengths}
 use Rattle.refusal.proofs.verdicts.shift_verdict.Statement.{statement}
 use Rattle.refusal.proofs.verdicts.shift_verdict.Tie as tie
@@ -34,14 +34,27 @@ returns-3 c = let e = c .before .before in simp (order (e .before .before), leng
 factors : (c : tie.Else3) → badFactors badShift (c .before .before .before .before .before .before .before .before .before .args .r .factors) ≡ false
 factors c = sym (c .before .bad-shifts .ensures) ∙ c .if3 .left
 
+moves-slices-requires : tie.Need-moves-slices-requires
+moves-slices-requires c κs = search needs
+
+returns-4 : tie.Need-returns-4
+returns-4 c = let f = c .before .before in let e = f .before .before in simp (order (e .before .before), lengths e, factors f, sym (c .before .moves-slices .ensures) ∙ c .if4 .taken)
+
+slices : (c : tie.Else4) → let a = c .before .before .before .before .before .before .before .before .before .before .before .args in movesSlices (a .r .dims) (a .r .factors) ≡ false
+slices c = sym (c .before .moves-slices .ensures) ∙ c .if4 .left
+
 shift-axes-requires : tie.Need-shift-axes-requires
-shift-axes-requires c κs = good-lengths (c .before .before .before .before .before .before .before .before .before .args .r .dims) (lengths (c .before .before))
+shift-axes-requires c κs = good-lengths (c .before .before .before .before .before .before .before .before .before .before .before .args .r .dims) (lengths (c .before .before .before .before))
 
 resample-verdict-requires : tie.Need-resample-verdict-requires
 resample-verdict-requires c κs = let h = shift-axes-requires (c .before) tt in (h, h)
 
-returns-4 : tie.Need-returns-4
-returns-4 c = c .resample-verdict .ensures ∙ simp (order (c .before .before .before .before .before .before), lengths (c .before .before .before .before), factors (c .before .before), c .before .shift-axes .ensures)
+returns-5 : tie.Need-returns-5
+returns-5 c =
+    let g = c .before .before in
+    let f = g .before .before in
+    let e = f .before .before in
+    c .resample-verdict .ensures ∙ simp (order (e .before .before), lengths e, factors f, slices g, c .before .shift-axes .ensures)
 
 pub shift-verdict-spec : {M : Type 1} → statement M
 shift-verdict-spec =
@@ -52,6 +65,8 @@ shift-verdict-spec =
     returns-2
     bad-shifts-requires
     returns-3
+    moves-slices-requires
+    returns-4
     shift-axes-requires
     resample-verdict-requires
-    returns-4)
+    returns-5)
