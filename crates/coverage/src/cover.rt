@@ -1,6 +1,6 @@
 // The coverage of a volume: the code of every voxel. No voxel is read here.
 ghost use mathlib.Core.Path.{_≡_};
-ghost use mathlib.Core.Bool.{false, _&&_};
+ghost use mathlib.Core.Bool.{_&&_};
 ghost use Prim.Native.Nat.{_+_, _*_, _/_, _<_, _≤_};
 ghost use lib.ListN.{length, getD};
 ghost use Rattle.limits.specs.Limits.{longest};
@@ -46,19 +46,6 @@ fn is_kept(a: Axis, i: usize, mode: BorderMode) -> bool
     ensures { λ r. ⌜ r ≡ keptAt mode a i ⌝ }
 {
     settled_at(a, i, mode) > -1.0
-}
-
-// Which output indices of an axis are kept.
-pub fn mark_kept(kept: &mut [bool], a: Axis, mode: BorderMode)
-    requires { ⌜ a .out ≤ length (now kept) ⌝ }
-    ensures { λ _. ⌜ Filled (keptAt mode a) false (now (kept .exit)) (a .out) ⌝ }
-{
-    let n = a.out;
-    let mut i = 0;
-    while i < n {
-        kept[i] = is_kept(a, i, mode);
-        i += 1;
-    }
 }
 
 pub fn both(a: bool, b: bool) -> bool

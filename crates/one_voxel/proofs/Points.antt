@@ -41,8 +41,8 @@ module _ (order : ℕ) (fill other : Float) (i : ℕ) (coordinate : List Float) 
   module _ (n : ℕ) (factor : Float) (prefilter : Bool) where
     pub shift-any-fill : shiftPointCall n factor order prefilter (Constant fill) i coordinate at weight ≡ shiftPointCall n factor order prefilter (Constant other) i coordinate at weight
     unfolding shiftPointCall fold settled besideAt someBeside
-    shift-any-fill = by-verdict (first (shiftPointChecks n factor order prefilter (Constant fill) i (length coordinate) (length at) (length weight))) (shiftAxis n factor (padOf (Constant fill) prefilter order))
+    shift-any-fill = by-verdict (first (shiftPointChecks n factor order prefilter (Constant fill) i (length coordinate) (length at) (length weight))) (shiftAxis n factor (padOf (Constant fill) prefilter order n))
 
     pub zoom-any-fill : zoomPointCall n factor order prefilter (Constant fill) i coordinate at weight ≡ zoomPointCall n factor order prefilter (Constant other) i coordinate at weight
     unfolding zoomPointCall fold settled besideAt someBeside
-    zoom-any-fill = by-verdict (first (zoomPointChecks n factor order prefilter (Constant fill) i (length coordinate) (length at) (length weight))) (zoomAxis n (outputLength n factor) (padOf (Constant fill) prefilter order))
+    zoom-any-fill = by-verdict (first (zoomPointChecks n factor order prefilter (Constant fill) i (length coordinate) (length at) (length weight))) (zoomAxis n (outputLength n factor) (padOf (Constant fill) prefilter order n))

@@ -31,8 +31,8 @@ pointCallBy (Refused why) order mode a i coordinate at weight = pointCallOf (Ref
 -- of an axis of n voxels
 unfoldable pub shiftPointCall : ℕ → Float → ℕ → Bool → BorderMode → ℕ → List Float → List ℕ → List Float → PointCall
 unfolding settled pointAt
-shiftPointCall n shift order prefilter mode i coordinate at weight = pointCallBy (first (shiftPointChecks n shift order prefilter mode i (length coordinate) (length at) (length weight))) order mode (shiftAxis n shift (padOf mode prefilter order)) i coordinate at weight
+shiftPointCall n shift order prefilter mode i coordinate at weight = pointCallBy (first (shiftPointChecks n shift order prefilter mode i (length coordinate) (length at) (length weight))) order mode (shiftAxis n shift (padOf mode prefilter order n)) i coordinate at weight
 
 unfoldable pub zoomPointCall : ℕ → Float → ℕ → Bool → BorderMode → ℕ → List Float → List ℕ → List Float → PointCall
 unfolding settled pointAt
-zoomPointCall n factor order prefilter mode i coordinate at weight = pointCallBy (first (zoomPointChecks n factor order prefilter mode i (length coordinate) (length at) (length weight))) order mode (zoomAxis n (outputLength n factor) (padOf mode prefilter order)) i coordinate at weight
+zoomPointCall n factor order prefilter mode i coordinate at weight = pointCallBy (first (zoomPointChecks n factor order prefilter mode i (length coordinate) (length at) (length weight))) order mode (zoomAxis n (outputLength n factor) (padOf mode prefilter order n)) i coordinate at weight

@@ -76,7 +76,7 @@ pub fn shift_point(
         weight.len(),
     ) {
         Verdict::Passed => {
-            let a = shift_axis(length, shift, pad_of(mode, prefilter, order));
+            let a = shift_axis(length, shift, pad_of(mode, prefilter, order, length));
             put_point(order, mode, a, i, coordinate, at, weight);
             Verdict::Passed
         }
@@ -112,7 +112,7 @@ pub fn zoom_point(
             let a = zoom_axis(
                 length,
                 output_length(length, factor),
-                pad_of(mode, prefilter, order),
+                pad_of(mode, prefilter, order, length),
             );
             put_point(order, mode, a, i, coordinate, at, weight);
             Verdict::Passed

@@ -4,19 +4,19 @@ use native.Mathlib.Omega.{arith}
 use mathlib.Core.Path.{_≡_, refl, sym, ap, _∙_}
 use mathlib.Core.Bool.{Bool, true, false, _&&_, cond, true≢false}
 use mathlib.Core.List.{List, [], _∷_, _++_}
-use lib.Dec.{ltb, lit≤}
+use lib.Dec.{ltb}
 use lib.ListN.{getD, drop}
 use lib.Ieee.{Float}
-use borrow.Author.Tests.{eq-eqb, ne-eqb, ltb-true}
-use Rattle.axis.specs.Coordinate.{pads}
+use borrow.Author.Tests.{ltb-true}
+use Rattle.limits.specs.Limits.{edgeOf, wideOf}
 use Rattle.edge.specs.Edge.{padded, paddedDims}
 use Rattle.prefilter.specs.Volume.{filterVolume, lengthOf, countOf}
 use Rattle.prefilter.specs.Bookkeeping.{Sized}
 use Rattle.request.specs.declared.Request.{Request}
-use Rattle.request.specs.Sizes.{filters, padding, sourceDims, needed}
+use Rattle.request.specs.Sizes.{filters, edges, sourceLength, sourceDims, needed}
 use Rattle.request.specs.Bookkeeping.{Lengths}
 use Rattle.resample.specs.Call.{sourceOf, coefficients, workAfter}
-use Rattle.request.proofs.Requests.{pad-most}
+use Rattle.request.proofs.Requests.{padding-most}
 
 -- lengths that refusal 3 lets pass, and a buffer of as many places
 pub sized : (d : List ℕ) (count : ℕ) → Lengths d → count ≡ countOf d → Sized d count
@@ -24,42 +24,34 @@ sized d count h c = record { least = λ axis l. h axis l .0; most = λ axis l. o
 
 module _ (r : Request) where
   -- ---- without edge copies
-  pub source-plain : (input : List Float) → padding r ≡ 0 → input ≡ sourceOf r input
+  pub source-plain : (input : List Float) → edges r ≡ false → input ≡ sourceOf r input
   unfolding sourceOf
-  source-plain input e = simp (eq-eqb (padding r) 0 e)
+  source-plain input e = simp e
 
   -- ---- with them
-  twelve : (padding r ≡ 0 → ⊥) → padding r ≡ 12
-  twelve n = go (r .prefilter && ltb 1 (r .order) && pads (r .mode)) n
-    where
-      go : (b : Bool) → (_≡_ {A = ℕ} (cond b 12 0) 0 → ⊥) → _≡_ {A = ℕ} (cond b 12 0) 12
-      go true n = refl
-      go false n = absurd (n refl)
-
-  padded-dims : (padding r ≡ 0 → ⊥) → sourceDims r ≡ paddedDims (r .dims)
-  padded-dims n =
-      let e = twelve n in
-      let q : (i : ℕ) → getD (r .dims) i 0 + 2 * padding r ≡ getD (r .dims) i 0 + 24 = λ i. omega (arith, e) in
+  padded-dims : edges r ≡ true → sourceDims r ≡ paddedDims (r .dims)
+  padded-dims e =
+      let q : (i : ℕ) → sourceLength r i ≡ wideOf (getD (r .dims) i 0) = λ i. ap (λ (b : Bool). getD (r .dims) i 0 + 2 * cond b (edgeOf (getD (r .dims) i 0)) 0) e in
       λ t. q 0 t ∷ q 1 t ∷ q 2 t ∷ []
 
-  pub padded-count : (padding r ≡ 0 → ⊥) → countOf (sourceDims r) ≡ countOf (paddedDims (r .dims))
-  padded-count n = ap (λ (d : List ℕ). countOf d) (padded-dims n)
+  pub padded-count : edges r ≡ true → countOf (sourceDims r) ≡ countOf (paddedDims (r .dims))
+  padded-count e = ap (λ (d : List ℕ). countOf d) (padded-dims e)
 
-  pub source-padded : (input : List Float) → (padding r ≡ 0 → ⊥) → padded (r .dims) input ≡ sourceOf r input
+  pub source-padded : (input : List Float) → edges r ≡ true → padded (r .dims) input ≡ sourceOf r input
   unfolding sourceOf
-  source-padded input n = simp (ne-eqb (padding r) 0 n)
+  source-padded input e = simp e
 
   -- ---- sizes that the filter takes
   pub source-sized : (d : List ℕ) (count : ℕ) → Lengths (r .dims) → d ≡ sourceDims r → count ≡ countOf (sourceDims r) → Sized d count
   source-sized d count h e c = rw e record { least = λ axis l. each axis l .0; most = λ axis l. each axis l .1; all = c }
     where
-      p : padding r ≤ 12
-      p = pad-most r refl
+      one : (axis : ℕ) → axis < 3 → (1 ≤ sourceLength r axis) × (sourceLength r axis ≤ 4120)
+      one axis l = omega (arith, h axis l, padding-most r axis refl)
 
-      each : (axis : ℕ) → axis < 3 → (2 ≤ lengthOf axis (sourceDims r)) × (lengthOf axis (sourceDims r) ≤ 4120)
-      each zero l = omega (arith, h 0 (lit≤ tt), p)
-      each (suc zero) l = omega (arith, h 1 (lit≤ tt), p)
-      each (suc (suc zero)) l = omega (arith, h 2 (lit≤ tt), p)
+      each : (axis : ℕ) → axis < 3 → (1 ≤ lengthOf axis (sourceDims r)) × (lengthOf axis (sourceDims r) ≤ 4120)
+      each zero l = one 0 l
+      each (suc zero) l = one 1 l
+      each (suc (suc zero)) l = one 2 l
       each (suc (suc (suc n))) l = absurd (omega arith)
 
   pub filters-from-2 : filters r ≡ true → 2 ≤ r .order

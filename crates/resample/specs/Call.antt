@@ -2,7 +2,7 @@
 use Prim.Native.Nat.{ℕ}
 use mathlib.Core.Bool.{cond}
 use mathlib.Core.List.{List, _++_}
-use lib.Dec.{eqb, ltb}
+use lib.Dec.{ltb}
 use lib.ListN.{length, drop}
 use lib.Ieee.{Float}
 use Rattle.edge.specs.Edge.{padded}
@@ -15,7 +15,7 @@ use Rattle.refusal.specs.declared.Verdict.{Verdict}
 use Rattle.refusal.specs.declared.Verdict.the-variants as verdict
 use Rattle.request.specs.declared.Axes.{Axes}
 use Rattle.request.specs.declared.Request.{Request}
-use Rattle.request.specs.Sizes.{filters, padding, sourceDims, needed, shiftAxes, zoomAxes}
+use Rattle.request.specs.Sizes.{filters, edges, sourceDims, needed, shiftAxes, zoomAxes}
 use Rattle.refusal.specs.Refusals.{numberOf, first, shiftChecks, zoomChecks, splineFilterChecks, splineFilter1dChecks}
 use Rattle.coverage.specs.Coverage.{ownCodes, countsOf, none}
 use Rattle.voxels.specs.Voxel.{values}
@@ -23,7 +23,7 @@ use Rattle.voxels.specs.Voxel.{values}
 -- ---- what the sums read: "Nearest in `shift` and `zoom` first pads"; so does Replicate
 unfoldable pub sourceOf : Request → List Float → List Float
 unfolding padded
-sourceOf r input = cond (eqb (padding r) 0) input (padded (r .dims) input)
+sourceOf r input = cond (edges r) (padded (r .dims) input) input
 
 unfoldable pub coefficients : Request → List Float → List Float
 unfolding sourceOf filterVolume

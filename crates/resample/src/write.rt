@@ -11,7 +11,7 @@ ghost use Rattle.refusal.specs.Bookkeeping.{Admitted, Passes};
 ghost use Rattle.coverage.specs.Coverage.{countsOf};
 ghost use Rattle.resample.specs.Call.{sourceOf, coefficients, callOf, valuesOf, codesOf, workAfter, success};
 ghost use Rattle.resample.specs.declared.Answer.the-variants.{Done};
-use axis::coordinate::pad_of;
+use axis::coordinate::has_pad;
 use coverage::counts::Counts;
 use coverage::counts::count_codes;
 use coverage::cover::cover;
@@ -33,11 +33,10 @@ fn take_source(work: &mut [f64], input: &[f64], r: Request)
 {
     let dims = r.dims;
     let mode = r.mode;
-    let copies = pad_of(mode, r.prefilter, r.order);
-    if copies == 0 {
-        copy(work, input);
-    } else {
+    if has_pad(mode, r.prefilter, r.order) {
         pad(work, input, dims);
+    } else {
+        copy(work, input);
     }
 }
 

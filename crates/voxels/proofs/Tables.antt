@@ -7,13 +7,12 @@ use mathlib.Core.Path.{_≡_, refl, sym, ap, _∙_, subst}
 use mathlib.Core.Logic.{dite, inl, inr}
 use mathlib.Core.Bool.{Bool, true, false, _&&_, cond}
 use mathlib.Core.List.{List}
-use lib.Dec.{T, leb, eqb}
+use lib.Dec.{leb, eqb}
 use lib.ListN.{length, getD, set, replicate, length-set, length-replicate, getD-replicate, List·getD-eq-default}
 use lib.Seq.{getD-set-same, getD-set-other}
-use lib.Ieee.{Float, nan, neg, ofInt}
+use lib.Ieee.{Float, nan}
 use borrow.Author.Tests.{leb-true}
 use Rattle.exact.specs.Within.{Within}
-use Rattle.exact.proofs.Value.{of-true}
 use Rattle.exact.proofs.Above.{Above}
 use Rattle.lists.specs.Tabulate.{tabulate}
 use Rattle.lists.proofs.Tabulated.{getD-tabulate, length-tabulate}
@@ -21,12 +20,11 @@ use Rattle.border.specs.declared.BorderMode.{BorderMode}
 use Rattle.axis.specs.declared.coordinate.Axis.{Axis}
 use Rattle.axis.specs.declared.point.Point.{Point}
 use Rattle.axis.specs.Coordinate.{settled, kept}
-use Rattle.axis.specs.Weights.{buildSplines}
+use Rattle.axis.specs.Weights.{orderOn, buildSplines}
 use Rattle.axis.specs.Neighbours.{firstNeighbour, outside, neighbourIndex}
 use Rattle.axis.specs.Point.{empty, neighbours, keptPoint, pointAt}
 use Rattle.axis.specs.Bookkeeping.{Reached}
-use Rattle.axis.proofs.Reaches.{settled-within}
-use Rattle.axis.proofs.Points.{placeOf}
+use Rattle.axis.proofs.Points.{placeOf, above-kept, kept-two, reached-kept}
 use Rattle.axis.proofs.Inside.{index-inside}
 use Rattle.voxels.specs.Bookkeeping.{Tabled, Column}
 
@@ -47,15 +45,15 @@ column-more d i c l₀ l k K I e p = record {
 }
 
 -- ---- a record names places of its axis
-empty-inside : (mark k L : ℕ) → 2 ≤ L → getD (empty mark .at) k 0 < L
+empty-inside : (mark k L : ℕ) → 1 ≤ L → getD (empty mark .at) k 0 < L
 empty-inside mark k L l = subst (λ (n : ℕ). n < L) (sym (dite (decLt k 6) (λ h. getD-replicate 6 k 0 0 h) (λ n. List·getD-eq-default (replicate 6 0) 0 {n = k} (omega arith)))) (omega arith)
 
 past-tabulate : {A : Type 0} (n : ℕ) (f : ℕ → A) (d : A) (i : ℕ) → n ≤ i → getD (tabulate n f) i d ≡ d
 past-tabulate n f d i h = List·getD-eq-default (tabulate n f) d {n = i} (omega (arith, length-tabulate n f))
 
-neighbours-inside : (order : ℕ) (mode : BorderMode) (L : ℕ) (to : Float) (k : ℕ) → order ≤ 5 → 2 ≤ L → L ≤ 4120 → Within 30 to → Above to → getD (neighbours mode order L (firstNeighbour order to)) k 0 < L
+pub neighbours-inside : (order : ℕ) (mode : BorderMode) (L : ℕ) (to : Float) (k : ℕ) → order ≤ 5 → 1 ≤ L → (outside order L (firstNeighbour order to) ≡ true → 2 ≤ L) → L ≤ 4120 → Within 30 to → Above to → getD (neighbours mode order L (firstNeighbour order to)) k 0 < L
 unfolding neighbours
-neighbours-inside order mode L to k o two top w a =
+neighbours-inside order mode L to k o one two top w a =
     dite (decLt k 6)
     (λ h. subst (λ (n : ℕ). n < L) (sym (getD-tabulate 6 (placeOf mode (outside order L (firstNeighbour order to)) order L (firstNeighbour order to)) 0 k h)) (go (leb k order) (leb-true k order)))
     (λ n. subst (λ (n : ℕ). n < L) (sym (past-tabulate 6 (placeOf mode (outside order L (firstNeighbour order to)) order L (firstNeighbour order to)) 0 k (omega arith))) (omega arith))
@@ -64,23 +62,21 @@ neighbours-inside order mode L to k o two top w a =
     go true h = index-inside order mode L to k o two top w a (h refl)
     go false h = omega arith
 
-at-cond : (t : Bool) (p q : Point) (k L : ℕ) → (t ≡ true → getD (p .at) k 0 < L) → getD (q .at) k 0 < L → getD (cond t p q .at) k 0 < L
+at-cond : (t : Bool) (p q : Point) (k L : ℕ) → (t ≡ true → getD (p .at) k 0 < L) → (t ≡ false → getD (q .at) k 0 < L) → getD (cond t p q .at) k 0 < L
 at-cond true p q k L h g = h refl
-at-cond false p q k L h g = g
-
-above-kept : (to : Float) → T (kept to) → Above to
-unfolding neg ofInt
-above-kept to h = h
+at-cond false p q k L h g = g refl
 
 pub point-inside : (order : ℕ) (mode : BorderMode) (a : Axis) (i k : ℕ) → Reached order a i → getD (pointAt order mode a i .at) k 0 < a .len
 unfolding pointAt keptPoint
 point-inside order mode a i k r =
     let to = settled mode a i in
-    let first = firstNeighbour order to in
-    at-cond (kept to) (cond (eqb order 0 && outside order (a .len) first) (empty 2) (record { mark = 0; weight = buildSplines order to; at = neighbours mode order (a .len) first })) (empty 1) k (a .len)
-    (λ t. at-cond (eqb order 0 && outside order (a .len) first) (empty 2) (record { mark = 0; weight = buildSplines order to; at = neighbours mode order (a .len) first }) k (a .len) (λ _. empty-inside 2 k (a .len) (r .least))
-    (neighbours-inside order mode (a .len) to k (r .upto) (r .least) (r .most) (settled-within mode r) (above-kept to (of-true (kept to) t))))
-    (empty-inside 1 k (a .len) (r .least))
+    let o = orderOn (a .len) order in
+    let first = firstNeighbour o to in
+    let reads : Point = record { mark = 0; weight = buildSplines o to; at = neighbours mode o (a .len) first } in
+    at-cond (kept to) (cond (eqb o 0 && outside o (a .len) first) (empty 2) reads) (empty 1) k (a .len)
+    (λ t. at-cond (eqb o 0 && outside o (a .len) first) (empty 2) reads k (a .len) (λ _. empty-inside 2 k (a .len) (r .least))
+    (λ n. let p = reached-kept order mode a i refl r t in neighbours-inside o mode (a .len) to k (p .upto) (p .least) (kept-two p n) (p .most) (p .bound) (above-kept to (p .above))))
+    (λ _. empty-inside 1 k (a .len) (r .least))
 
 -- ---- one output index more
 pub tabled-more :
@@ -113,7 +109,7 @@ tabled-more order mode a i at at' weight weight' p e r I c w t = record {
     miss m n h = subst (λ (x : ℕ). x < a .len) (sym (c .rest m n)) (t .inside m h)
 
 -- ---- before the first
-pub table-start : (order : ℕ) (mode : BorderMode) (a : Axis) (w : Float) → 2 ≤ a .len → Tabled order mode a (replicate 24580 0) (replicate 24580 w) 0
+pub table-start : (order : ℕ) (mode : BorderMode) (a : Axis) (w : Float) → 1 ≤ a .len → Tabled order mode a (replicate 24580 0) (replicate 24580 w) 0
 table-start order mode a w l = record {
   long = length-replicate {A = ℕ} 24580 0;
   wide = length-replicate 24580 w;

@@ -23,7 +23,6 @@ use axis::point::point_at;
 use border::BorderMode;
 use coverage::cover::both;
 use coverage::cover::drop_value;
-use coverage::cover::mark_kept;
 use limits::LONGEST;
 
 fn chosen(kept: bool, value: f64, dropped: f64) -> f64
@@ -336,8 +335,7 @@ pub fn sweep(
     let mut kept = [false; LONGEST];
     let mut at = [0; TABLE];
     let mut weight = [0.0; TABLE];
-    mark_kept(&mut kept, za, mode);
-    fill_table(&mut at, &mut weight, za, order, mode);
+    fill_table(&mut kept, &mut at, &mut weight, za, order, mode);
     value_planes(
         out,
         za.out,

@@ -5,7 +5,7 @@ use lib.ListN.{length}
 use Rattle.axis.specs.declared.coordinate.Axis.{Axis}
 use Rattle.axis.specs.Coordinate.{padOf, shiftAxis}
 use Rattle.axis.specs.Bookkeeping.{Reached}
-use Rattle.request.proofs.Requests.{most-padded}
+use Rattle.axis.proofs.Coordinates.{pad-most}
 use Rattle.refusal.specs.declared.Verdict.the-variants.{Passed}
 use Rattle.refusal.specs.Refusals.{first, shiftPointChecks}
 use Rattle.refusal.proofs.Pointing.{Noted, shift-point-passes}
@@ -16,7 +16,7 @@ use Rattle.one_voxel.proofs.point.shift_point.Statement.{statement}
 use Rattle.one_voxel.proofs.point.shift_point.Tie as tie
 
 abbrev axis : tie.Start → Axis
-axis s = shiftAxis (s .args .length) (s .args .shift) (padOf (s .args .mode) (s .args .prefilter) (s .args .order))
+axis s = shiftAxis (s .args .length) (s .args .shift) (padOf (s .args .mode) (s .args .prefilter) (s .args .order) (s .args .length))
 
 -- nothing was refused
 module _ (c : tie.After-enum-told) where
@@ -39,7 +39,7 @@ pad-of-requires : tie.Need-pad-of-requires
 pad-of-requires c κs = search needs
 
 shift-axis-requires : tie.Need-shift-axis-requires
-shift-axis-requires c κs = let a = s (c .before) .args in (noted (c .before) .most, most-padded (a .mode) (a .prefilter) (a .order) (c .pad-of .ensures))
+shift-axis-requires c κs = let a = s (c .before) .args in (noted (c .before) .most, pad-most (a .mode) (a .prefilter) (a .order) (a .length) (c .pad-of .ensures))
 
 -- the axis that is made is the specified one
 made : (c : tie.After-shift-axis) → c .shift-axis .result ≡ axis (s (c .before .before))

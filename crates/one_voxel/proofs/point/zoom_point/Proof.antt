@@ -7,7 +7,7 @@ use Rattle.axis.specs.declared.coordinate.Axis.{Axis}
 use Rattle.axis.specs.Coordinate.{padOf, zoomAxis}
 use Rattle.axis.specs.Length.{outputLength}
 use Rattle.axis.specs.Bookkeeping.{Zooms, Reached}
-use Rattle.request.proofs.Requests.{most-padded}
+use Rattle.axis.proofs.Coordinates.{pad-most}
 use Rattle.refusal.specs.declared.Verdict.the-variants.{Passed}
 use Rattle.refusal.specs.Refusals.{first, zoomPointChecks}
 use Rattle.refusal.proofs.Pointing.{Noted, zoom-point-passes, zoom-point-ready}
@@ -18,7 +18,7 @@ use Rattle.one_voxel.proofs.point.zoom_point.Statement.{statement}
 use Rattle.one_voxel.proofs.point.zoom_point.Tie as tie
 
 abbrev axis : tie.Start → Axis
-axis s = zoomAxis (s .args .length) (outputLength (s .args .length) (s .args .factor)) (padOf (s .args .mode) (s .args .prefilter) (s .args .order))
+axis s = zoomAxis (s .args .length) (outputLength (s .args .length) (s .args .factor)) (padOf (s .args .mode) (s .args .prefilter) (s .args .order) (s .args .length))
 
 -- nothing was refused
 module _ (c : tie.After-enum-told) where
@@ -31,7 +31,7 @@ module _ (c : tie.After-enum-told) where
   noted : Noted (s .args .length) (s .args .order) (axis s) (s .args .i) (length (s .args .coordinate .now)) (length (s .args .at .now)) (length (s .args .weight .now))
   noted = zoom-point-passes (s .args .length) (s .args .factor) (s .args .order) (s .args .prefilter) (s .args .mode) (s .args .i) (length (s .args .coordinate .now)) (length (s .args .at .now)) (length (s .args .weight .now)) cleared
 
-  ready : Zooms (s .args .length) (s .args .factor) × (2 ≤ outputLength (s .args .length) (s .args .factor))
+  ready : Zooms (s .args .length) (s .args .factor) × (1 ≤ outputLength (s .args .length) (s .args .factor))
   ready = zoom-point-ready (s .args .length) (s .args .factor) (s .args .order) (s .args .prefilter) (s .args .mode) (s .args .i) (length (s .args .coordinate .now)) (length (s .args .at .now)) (length (s .args .weight .now)) cleared
 
 zoom-point-verdict-requires : tie.Need-zoom-point-verdict-requires
@@ -50,7 +50,7 @@ zoom-axis-requires : tie.Need-zoom-axis-requires
 zoom-axis-requires c κs =
     let told = c .before .before in
     let a = s told .args in
-    ((omega (arith, noted told .least), noted told .most), (omega (arith, ready told .1, c .before .output-length .ensures), most-padded (a .mode) (a .prefilter) (a .order) (c .pad-of .ensures)))
+    ((omega (arith, noted told .least), noted told .most), (omega (arith, ready told .1, c .before .output-length .ensures), pad-most (a .mode) (a .prefilter) (a .order) (a .length) (c .pad-of .ensures)))
 
 -- the axis that is made is the specified one
 made : (c : tie.After-zoom-axis) → c .zoom-axis .result ≡ axis (s (c .before .before .before))

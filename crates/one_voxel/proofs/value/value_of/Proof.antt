@@ -6,7 +6,7 @@ use native.Mathlib.Omega.{arith}
 use lib.ListN.{getD}
 use lib.Ieee.{Float}
 use Rattle.lists.proofs.Stretches.{part-length}
-use Rattle.request.proofs.Requests.{plain-count, plain-padding, needed-all}
+use Rattle.request.proofs.Requests.{plain-count, plain-edges, needed-all}
 use Rattle.voxels.specs.Voxel.{voxelAt}
 use Rattle.one_voxel.proofs.Voxels.{from-work, from-input}
 use borrow.Author.Needs.{needs}
@@ -54,7 +54,7 @@ value-at-requires-2 c κs =
     let p = s .pre .0 in
     let at = s .pre .1 .1 in
     let f = sym (c .before .filters .ensures) ∙ c .if1 .left in
-    (p .all ∙ sym (plain-count (s .args .r) (plain-padding (s .args .r) f)) ∙ p .long, ((p .rows, p .row), (p .x .each _ (at .x), (p .y .each _ (at .y), p .z .each _ (at .z)))))
+    (p .all ∙ sym (plain-count (s .args .r) (plain-edges (s .args .r) f)) ∙ p .long, ((p .rows, p .row), (p .x .each _ (at .x), (p .y .each _ (at .y), p .z .each _ (at .z)))))
 
 returns-2 : tie.Need-returns-2
 returns-2 c =

@@ -3,7 +3,7 @@ use mathlib.Core.Path.{_∙_, sym, ap}
 use mathlib.Core.List.{List}
 use lib.Ieee.{Float}
 use Rattle.voxels.specs.Voxel.{values}
-use Rattle.request.proofs.Requests.{plain-padding, plain-count}
+use Rattle.request.proofs.Requests.{plain-edges, plain-count}
 use Rattle.resample.proofs.Preparing.{unfiltered}
 use borrow.Author.Needs.{needs}
 use Rattle.resample.proofs.write.write_plain.Statement.{statement}
@@ -13,7 +13,7 @@ sweep-requires : tie.Need-sweep-requires
 sweep-requires c κs =
     let s = c .before .before .before .before .before .before in
     let p = s .pre .1 .0 in
-    (p .order, (s .pre .1 .1, (p .all ∙ sym (plain-count (s .args .r) (plain-padding (s .args .r) (s .pre .0))) ∙ p .long, ((p .rows, (p .row, p .some)), (p .x, (p .y, p .z))))))
+    (p .order, (s .pre .1 .1, (p .all ∙ sym (plain-count (s .args .r) (plain-edges (s .args .r) (s .pre .0))) ∙ p .long, ((p .rows, (p .row, p .some)), (p .x, (p .y, p .z))))))
 
 same-length : tie.Need-same-length
 same-length c = search needs
