@@ -17,7 +17,8 @@ use Rattle.request.specs.Sizes.{filters, needed, zoomDims}
 use Rattle.request.specs.Conditions.{wrong, tooShort, badIndex, badIndices}
 use Rattle.refusal.specs.declared.Verdict.{Verdict}
 use Rattle.refusal.specs.declared.Verdict.the-variants.{Passed}
-use Rattle.refusal.specs.Refusals.{first, numberBy}
+use Rattle.refusal.specs.declared.Refusal.the-variants.{Index}
+use Rattle.refusal.specs.Refusals.{when, first, numberBy}
 use Rattle.refusal.proofs.Firsts.{all-clear, clear-passes}
 use Rattle.voxels.specs.Voxel.{voxelAt}
 use Rattle.resample.specs.Call.{coefficients, numberIn}
@@ -25,10 +26,10 @@ use Rattle.resample.proofs.Preparing.{unfiltered}
 use Rattle.one_voxel.specs.Call.{VoxelCall, lentSource, voxelOf, voxelCallOf, voxelCallBy, shiftVoxelCall, zoomVoxelCall}
 use Rattle.one_voxel.proofs.Voxels.{from-work, from-input}
 use Rattle.promises.specs.Entries.{Entry, shifting, zooming, call, checks, axesOf, outputDims, voxelCall, voxelChecks}
-use Rattle.promises.specs.Given.{holds}
+use Rattle.promises.specs.Given.{holds, earlier, FirstToHold, NoneBut}
 use Rattle.promises.specs.Place.{Inside, voxel, code}
 use Rattle.promises.specs.Alone.{Beyond, Lends}
-use Rattle.promises.proofs.Given.{voxel-refusal-exactly}
+use Rattle.promises.proofs.Given.{but-last, of-front, voxel-refusal-exactly}
 use Rattle.promises.proofs.Succeeding.{by-verdict, succeeds}
 use Rattle.promises.proofs.Places.{code-is, voxel-is}
 use Rattle.promises.proofs.Working.{work-filtered}
@@ -48,12 +49,21 @@ module _ (r : Request) (input work : List Float) (at : List ℕ) (value : List F
   last-holds shifting = refl
   last-holds zooming = refl
 
-  -- exactly where an index is at or beyond its output length and no earlier refusal applies
-  pub eleven-exactly : (e : Entry) → (numberBy (voxelCall e r input work at value code .answer) ≡ 11) ↔ (((n : ℕ) → n < 11 → holds (voxelChecks e r input (length value) (length code) (length work) at) n ≡ false) × Beyond (outputDims e r) at)
+  -- it is the last check
+  last-out : (e : Entry) → let tests = voxelChecks e r input (length value) (length code) (length work) at in FirstToHold tests 11 → NoneBut tests 11
+  last-out shifting h = but-last (earlier (voxelChecks shifting r input (length value) (length code) (length work) at) 11) (when Index (badIndices (r .dims) at)) (h .before)
+  last-out zooming h = but-last (earlier (voxelChecks zooming r input (length value) (length code) (length work) at) 11) (when Index (badIndices (zoomDims r) at)) (h .before)
+
+  before-last : (e : Entry) → let tests = voxelChecks e r input (length value) (length code) (length work) at in NoneBut tests 11 → (m : ℕ) → holds (earlier tests 11) m ≡ false
+  before-last shifting h = of-front (earlier (voxelChecks shifting r input (length value) (length code) (length work) at) 11) (when Index (badIndices (r .dims) at)) refl h
+  before-last zooming h = of-front (earlier (voxelChecks zooming r input (length value) (length code) (length work) at) 11) (when Index (badIndices (zoomDims r) at)) refl h
+
+  -- exactly where an index is at or beyond its output length and no other refusal applies
+  pub eleven-exactly : (e : Entry) → (numberBy (voxelCall e r input work at value code .answer) ≡ 11) ↔ (NoneBut (voxelChecks e r input (length value) (length code) (length work) at) 11 × Beyond (outputDims e r) at)
   eleven-exactly e =
       let given = voxel-refusal-exactly e r input work at value code 11 (lit≤ tt) in (
-        λ q. let h = given .0 q in (h .before, beyond-some (outputDims e r) at .0 (sym (last-holds e) ∙ h .this)),
-        λ h. given .1 (record { this = last-holds e ∙ beyond-some (outputDims e r) at .1 (h .1); before = h .0 }),
+        λ q. let h = given .0 q in (last-out e h, beyond-some (outputDims e r) at .0 (sym (last-holds e) ∙ h .this)),
+        λ h. given .1 (record { this = last-holds e ∙ beyond-some (outputDims e r) at .1 (h .1); before = before-last e (h .0) }),
       )
 
 -- ---- what the volume engine takes is taken
@@ -82,12 +92,12 @@ module _ (r : Request) (input : List Float) (output coverage work : ℕ) (value 
   taken : (e : Entry) (i j k : ℕ) → Inside (outputDims e r) i j k → first (checks e r input output coverage work) ≡ Passed → first (voxelChecks e r input value code lent (i ∷ j ∷ k ∷ [])) ≡ Passed
   taken shifting i j k inside e =
       let h = all-clear (checks shifting r input output coverage work) e in
-      let rest = h .1 .1 .1 in
-      clear-passes (voxelChecks shifting r input value code lent (i ∷ j ∷ k ∷ [])) (h .0, (h .1 .0, (h .1 .1 .0, (rest .0, (buffers _ (rest .1 .0), (rest .1 .1 .0, (rest .1 .1 .1 .0, (within (r .dims) i j k (inside .x) (inside .y) (inside .z), tt))))))))
+      let rest = h .1 .1 .1 .1 in
+      clear-passes (voxelChecks shifting r input value code lent (i ∷ j ∷ k ∷ [])) (h .0, (h .1 .0, (h .1 .1 .0, (h .1 .1 .1 .0, (rest .0, (buffers _ (rest .1 .0), (rest .1 .1 .0, (rest .1 .1 .1 .0, (within (r .dims) i j k (inside .x) (inside .y) (inside .z), tt)))))))))
   taken zooming i j k inside e =
       let h = all-clear (checks zooming r input output coverage work) e in
-      let rest = h .1 .1 .1 .1 in
-      clear-passes (voxelChecks zooming r input value code lent (i ∷ j ∷ k ∷ [])) (h .0, (h .1 .0, (h .1 .1 .0, (h .1 .1 .1 .0, (rest .0, (buffers _ (rest .1 .0), (rest .1 .1 .0, (rest .1 .1 .1 .0, (within (zoomDims r) i j k (inside .x) (inside .y) (inside .z), tt)))))))))
+      let rest = h .1 .1 .1 .1 .1 in
+      clear-passes (voxelChecks zooming r input value code lent (i ∷ j ∷ k ∷ [])) (h .0, (h .1 .0, (h .1 .1 .0, (h .1 .1 .1 .0, (h .1 .1 .1 .1 .0, (rest .0, (buffers _ (rest .1 .0), (rest .1 .1 .0, (rest .1 .1 .1 .0, (within (zoomDims r) i j k (inside .x) (inside .y) (inside .z), tt))))))))))
 
 -- ---- what the sums read is what the engine reads
 source-is : (r : Request) (input lent : List Float) → Lends r input lent → lentSource r input lent ≡ coefficients r input

@@ -3,14 +3,15 @@ use Prim.Native.Nat.{ℕ}
 use mathlib.Core.Path.{_≡_, refl, sym, ap, _∙_}
 use mathlib.Core.Bool.{true, false, _||_}
 use mathlib.Core.List.{List}
-use lib.ListN.{length, length-map}
+use lib.ListN.{length, getD, length-map}
 use lib.Ieee.{Float, binary64, ofBits}
+use borrow.Author.Tests.{le-ltb}
 use Rattle.prefilter.specs.Volume.{countOf}
 use Rattle.request.specs.declared.Request.{Request}
 use Rattle.request.specs.Sizes.{needed, zoomDims}
-use Rattle.request.specs.Conditions.{badLengths, tooLarge, wildFill, someWild}
-use Rattle.lists.proofs.Somes.{or-false}
-use Rattle.request.proofs.Requests.{good-lengths}
+use Rattle.request.specs.Conditions.{badLength, badLengths, zoomsSlices, badOutputs, tooLarge, wildFill, someWild}
+use Rattle.lists.proofs.Somes.{some-none, or-false}
+use Rattle.request.proofs.Requests.{good-lengths, good-outputs}
 use Rattle.npy.specs.File.{isNpy, dimsOf, voxelsOf, written}
 use Rattle.npy.specs.Call.{NpyCall, npyCallOf, sizeOf, writeCall}
 use Rattle.npy.proofs.RoundTrip.{written-dims, written-is-npy, written-voxels}
@@ -26,6 +27,11 @@ use Rattle.promises.proofs.Files.{file-success-leaves, lengths-pass, wr
 
 -- ---- what the refusals have let pass: lengths and a count that are the writer's to take, and no wild voxel
 module _ (r : Request) (input output : List Float) (coverage : List ℕ) (work : List Float) where
+  -- zoom's output lengths are lengths
+  zoomed : zoomsSlices (r .dims) (zoomDims r) ≡ false → badOutputs (r .dims) (zoomDims r) ≡ false → badLengths (zoomDims r) ≡ false
+  unfolding badLengths
+  zoomed slice out = some-none (λ i. badLength (getD (zoomDims r) i 0)) 3 (λ i l. let g = good-outputs (r .dims) (zoomDims r) slice out i l .0 in (λ t. le-ltb (getD (zoomDims r) i 0) 1 (g .0) t || le-ltb 4096 (getD (zoomDims r) i 0) (g .1) t))
+
   admitted : (e : Entry) → numberIn (call e r input output coverage work .answer) ≡ 0 → (badLengths (outputDims e r) ≡ false) × (tooLarge (countOf (outputDims e r)) ≡ false) × (someWild input ≡ false)
   unfolding badLengths
   admitted shifting q =
@@ -36,7 +42,7 @@ module _ (r : Request) (input output : List Float) (coverage : List ℕ) (work :
       let h = success-exactly zooming r input output coverage work .0 q in
       let n = countOf (r .dims) in
       let m = countOf (zoomDims r) in
-      (h 5, or-false (tooLarge n) (tooLarge m) (or-false (tooLarge n || tooLarge m) (tooLarge (needed r)) (h 6) .0) .1, or-false (wildFill (r .mode)) (someWild input) (h 8) .1)
+      (zoomed (h 12) (h 5), or-false (tooLarge n) (tooLarge m) (or-false (tooLarge n || tooLarge m) (tooLarge (needed r)) (h 6) .0) .1, or-false (wildFill (r .mode)) (someWild input) (h 8) .1)
 
 module _ {e : Entry} {r : Request} {from : List ℕ} {lent : Lent} {out : List ℕ} (s : Resamples e r from lent out) where
   resampled-is : resampled e r from lent ≡ callOn e r (voxelsOf from) lent

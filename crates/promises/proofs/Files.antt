@@ -7,6 +7,7 @@ use mathlib.Core.Bool.{Bool, true, false, cond, true≢false}
 use mathlib.Core.List.{List}
 use lib.Dec.{leb, lit≤}
 use lib.ListN.{length, take}
+use borrow.Author.Tests.{leb-true}
 use Rattle.words.specs.Words.{Below}
 use Rattle.words.proofs.Numbers.{length-words}
 use Rattle.prefilter.specs.Volume.{countOf}
@@ -16,18 +17,28 @@ use Rattle.refusal.specs.declared.Refusal.the-variants.{NotNpy, Length, Count}
 use Rattle.refusal.specs.declared.Verdict.{Verdict}
 use Rattle.refusal.specs.declared.Verdict.the-variants.{Passed, Refused}
 use Rattle.refusal.specs.Refusals.{Check, first, numberOf, numberBy}
-use Rattle.refusal.proofs.Firsts.{all-clear, allSay}
+use Rattle.refusal.proofs.Firsts.{all-clear, allSay, found-among}
 use Rattle.npy.specs.File.{textStart, textLength, isNpy, dimsOf, voxelsOf, writtenHeader, written}
 use Rattle.npy.specs.Call.{NpyCall, npyCallOf, npyCallBy, lengthChecks, readChecks, writeChecks, sizeOf, dimsCall, readCall, writeCall}
 use Rattle.npy.proofs.Verdicts.{write-passed, read-passed, read-clear, passing, write-clear}
 use Rattle.npy.proofs.RoundTrip.{written-dims, written-is-npy, written-voxels, rewritten}
 use Rattle.promises.specs.Given.{holds, FirstToHold}
 use Rattle.promises.specs.Filings.{Filing, measuring, reading, writing, fileCall, held, made, otherFile, fileChecks}
-use Rattle.promises.proofs.Given.{Rising, exactly, success, at-most}
+use Rattle.promises.proofs.Given.{distinct, exactly, success}
 
--- ---- 10 stands before checks in the order of their numbers, all of them document 01's
+-- ---- 10 stands before checks that are all document 01's
+abbrev nine : Refusal → Bool
+nine why = leb (numberOf why) 9
+
 abbrev Later : List Check → Type 0
-Later l = Rising 0 l × (allSay (λ (why : Refusal). leb (numberOf why) 9) l ≡ true)
+Later l = (distinct l ≡ true) × (allSay nine l ≡ true)
+
+at-most : (l : List Check) → allSay nine l ≡ true → numberBy (first l) ≤ 9
+at-most l h = go (first l) refl
+  where
+    go : (v : Verdict) → first l ≡ v → numberBy v ≤ 9
+    go Passed q = lit≤ tt
+    go (Refused why) q = leb-true (numberOf why) 9 (found-among nine l h why q)
 
 module _ (l : List Check) (u : Later l) where
   abbrev behind : Bool → ℕ
@@ -35,11 +46,11 @@ module _ (l : List Check) (u : Later l) where
 
   is-ten : (other : Bool) → (behind other ≡ 10) ↔ (other ≡ true)
   is-ten true = (λ e. refl, λ e. refl)
-  is-ten false = (λ e. absurd (omega (arith, e, at-most 9 l (u .1) refl)), λ e. absurd (true≢false (sym e)))
+  is-ten false = (λ e. absurd (omega (arith, e, at-most l (u .1))), λ e. absurd (true≢false (sym e)))
 
   is-most : (other : Bool) → behind other ≤ 10
   is-most true = lit≤ tt
-  is-most false = omega (arith, at-most 9 l (u .1) refl)
+  is-most false = omega (arith, at-most l (u .1))
 
   is-later : (other : Bool) (n : ℕ) → 1 ≤ n → n ≤ 9 → (behind other ≡ n) ↔ ((other ≡ false) × FirstToHold l n)
   is-later true n p q = (λ e. absurd (omega (arith, e, q)), λ h. absurd (true≢false (h .0)))
@@ -64,9 +75,9 @@ module _ (c : Filing) where
 
   file-later : Later (fileChecks c)
   file-later = elim c [
-    | measuring file dims ↦ ((lit≤ tt, tt), refl)
-    | reading file volume ↦ ((lit≤ tt, (lit≤ tt, (lit≤ tt, tt))), refl)
-    | writing d volume bytes ↦ ((lit≤ tt, (lit≤ tt, (lit≤ tt, tt))), refl)
+    | measuring file dims ↦ (refl, refl)
+    | reading file volume ↦ (refl, refl)
+    | writing d volume bytes ↦ (refl, refl)
   ]
 
   call-is : fileCall c ≡ npyCallBy (verdict c) (made c) (held c)

@@ -1,36 +1,44 @@
 -- "The first that applies is given, and a refusal is given only then": refusal n is the answer exactly when its condition holds and no earlier one does; success, exactly when none holds; and there is no other answer.
-use Prim.Native.Nat.{ℕ, _≤_, _<_}
+use Prim.Native.Nat.{ℕ, _≤_}
 use native.Mathlib.Omega.{arith}
 use mathlib.Core.Path.{_≡_, refl, sym, ap, _∙_, subst}
 use mathlib.Core.Logic.{_↔_}
-use mathlib.Core.Bool.{Bool, true, false, cond, true≢false}
-use mathlib.Core.List.{List, [], _∷_}
-use lib.Dec.{eqb, ltb, leb, lit≤}
+use mathlib.Core.Bool.{Bool, true, false, not, _&&_, _||_, cond, true≢false}
+use mathlib.Core.List.{List, [], _∷_, _++_}
+use lib.Dec.{eqb}
 use lib.ListN.{length}
 use lib.Ieee.{Float}
-use borrow.Author.Tests.{eqb-true, eqb-false, eq-eqb, ne-eqb, ltb-true, ltb-false, leb-true}
+use borrow.Author.Tests.{eqb-true, eqb-false, eq-eqb, ne-eqb, not-true}
 use Rattle.request.specs.declared.Axes.{Axes}
 use Rattle.request.specs.declared.Request.{Request}
 use Rattle.refusal.specs.declared.Refusal.{Refusal}
-use Rattle.refusal.specs.declared.Refusal.the-variants.{NotNpy, Order, AxisNumber, Length, Factor, OutputLength, Count, Buffer, Value, Beside, Index}
+use Rattle.refusal.specs.declared.Refusal.the-variants.{NotNpy, Order, AxisNumber, Length, Factor, Slice, OutputLength, Count, Buffer, Value, Beside, Index}
 use Rattle.refusal.specs.declared.Verdict.{Verdict}
 use Rattle.refusal.specs.declared.Verdict.the-variants.{Passed, Refused}
 use Rattle.refusal.specs.Refusals.{Check, first, numberOf, numberBy}
-use Rattle.refusal.proofs.Firsts.{allSay, found-among}
+use Rattle.refusal.proofs.Firsts.{Clear, allSay, found-among}
 use Rattle.resample.specs.Call.{callBy, numberIn, filterCallBy, shiftCall, zoomCall, splineFilterCall, splineFilter1dCall}
 use Rattle.one_voxel.specs.declared.Voxel.{Voxel}
 use Rattle.one_voxel.specs.Call.{voxelCallBy, shiftVoxelCall, zoomVoxelCall}
 use Rattle.promises.specs.Entries.{Entry, shifting, zooming, Filter, whole, along, call, checks, axesOf, voxelCall, voxelChecks, filterCall, filterChecks}
-use Rattle.promises.specs.Given.{holds, FirstToHold}
-
--- ---- checks in the order of their numbers, all above k
-abbrev pub Rising : ℕ → List Check → Type 0
-Rising k [] = Unit
-Rising k (c ∷ cs) = (k < numberOf (c .says)) × Rising (numberOf (c .says)) cs
+use Rattle.promises.specs.Given.{holds, earlier, FirstToHold, NoneBut, among}
 
 either : (b : Bool) {A : Type 0} → (b ≡ true → A) → (b ≡ false → A) → A
 either true t f = t refl
 either false t f = f refl
+
+-- ---- checks of which no two have one number
+abbrev absent : ℕ → List Check → Bool
+absent n [] = true
+absent n (c ∷ cs) = not (eqb (numberOf (c .says)) n) && absent n cs
+
+abbrev pub distinct : List Check → Bool
+distinct [] = true
+distinct (c ∷ cs) = absent (numberOf (c .says)) cs && distinct cs
+
+pub both : (p q : Bool) → (p && q) ≡ true → (p ≡ true) × (q ≡ true)
+both true q e = (refl, e)
+both false q e = absurd (true≢false (sym e))
 
 module _ (c : Check) (cs : List Check) where
   its-own : (n : ℕ) → numberOf (c .says) ≡ n → holds (c ∷ cs) n ≡ c .applies
@@ -39,9 +47,22 @@ module _ (c : Check) (cs : List Check) where
   another's : (n : ℕ) → (numberOf (c .says) ≡ n → ⊥) → holds (c ∷ cs) n ≡ holds cs n
   another's n e = ap (λ (b : Bool). cond b (c .applies) (holds cs n)) (ne-eqb _ _ e)
 
-below : (l : List Check) (k m : ℕ) → Rising k l → m ≤ k → holds l m ≡ false
-below [] k m u h = refl
-below (c ∷ cs) k m u h = another's c cs m (λ e. omega (arith, u .0, h, e)) ∙ below cs (numberOf (c .says)) m (u .1) (omega (arith, u .0, h))
+missing : (n : ℕ) (l : List Check) → absent n l ≡ true → holds l n ≡ false
+missing n [] a = refl
+missing n (c ∷ cs) a =
+    let h = both (not (eqb (numberOf (c .says)) n)) (absent n cs) a in
+    another's c cs n (eqb-false _ n (not-true (eqb (numberOf (c .says)) n) (h .0))) ∙ missing n cs (h .1)
+
+-- and so among the earlier ones
+missing-earlier : (n k : ℕ) (l : List Check) → absent n l ≡ true → absent n (earlier l k) ≡ true
+missing-earlier n k [] a = refl
+missing-earlier n k (c ∷ cs) a =
+    let h = both (not (eqb (numberOf (c .says)) n)) (absent n cs) a in
+    go (eqb (numberOf (c .says)) k) (λ t. h .0 t && missing-earlier n k cs (h .1) t)
+  where
+    go : (b : Bool) → (not (eqb (numberOf (c .says)) n) && absent n (earlier cs k)) ≡ true → absent n (cond b [] (c ∷ earlier cs k)) ≡ true
+    go true e = refl
+    go false e = e
 
 -- ---- the numbers
 pub some-number : (why : Refusal) → numberOf why ≡ 0 → ⊥
@@ -50,6 +71,7 @@ some-number Order e = omega (arith, e)
 some-number AxisNumber e = omega (arith, e)
 some-number Length e = omega (arith, e)
 some-number Factor e = omega (arith, e)
+some-number Slice e = omega (arith, e)
 some-number OutputLength e = omega (arith, e)
 some-number Count e = omega (arith, e)
 some-number Buffer e = omega (arith, e)
@@ -58,36 +80,44 @@ some-number Beside e = omega (arith, e)
 some-number Index e = omega (arith, e)
 
 -- ---- the law of every such list, one check more
-module _ (c : Check) (cs : List Check) (n : ℕ) (u : Rising (numberOf (c .says)) cs) where
-  later : (m : ℕ) → m ≤ numberOf (c .says) → holds cs m ≡ false
-  later m h = below cs (numberOf (c .says)) m u h
+module _ (c : Check) (cs : List Check) (n : ℕ) (u : absent (numberOf (c .says)) cs ≡ true) where
+  abbrev own : ℕ
+  own = numberOf (c .says)
+
+  -- what stands before refusal n's, where c is its check and where it is not
+  found : own ≡ n → earlier (c ∷ cs) n ≡ []
+  found e = ap (λ (b : Bool). cond b [] (c ∷ earlier cs n)) (eq-eqb _ _ e)
+
+  passed-by : (own ≡ n → ⊥) → earlier (c ∷ cs) n ≡ c ∷ earlier cs n
+  passed-by e = ap (λ (b : Bool). cond b [] (c ∷ earlier cs n)) (ne-eqb _ _ e)
 
   one-more : (numberBy (first cs) ≡ n → FirstToHold cs n) → (b : Bool) → c .applies ≡ b → numberBy (cond b (Refused (c .says)) (first cs)) ≡ n → FirstToHold (c ∷ cs) n
-  one-more rest true a e = record { this = its-own c cs n e ∙ a; before = λ m h. another's c cs m (λ q. omega (arith, h, q, e)) ∙ later m (omega (arith, h, e)) }
+  one-more rest true a e = record { this = its-own c cs n e ∙ a; before = λ m. ap (λ (l : List Check). holds l m) (found e) }
   one-more rest false a e =
       let r = rest e in
+      let other : own ≡ n → ⊥ = λ q. true≢false (sym (r .this) ∙ ap (λ (k : ℕ). holds cs k) (sym q) ∙ missing own cs u) in
       record {
-        this = another's c cs n (λ q. true≢false (sym (r .this) ∙ later n (omega (arith, q)))) ∙ r .this;
-        before = λ m h. either (eqb (numberOf (c .says)) m) (λ t. its-own c cs m (eqb-true _ m t) ∙ a) (λ f. another's c cs m (eqb-false _ m f) ∙ r .before m h);
+        this = another's c cs n other ∙ r .this;
+        before = λ m. ap (λ (l : List Check). holds l m) (passed-by other) ∙ either (eqb own m) (λ t. its-own c (earlier cs n) m (eqb-true _ m t) ∙ a) (λ f. another's c (earlier cs n) m (eqb-false _ m f) ∙ r .before m);
       }
 
   one-less : (FirstToHold cs n → numberBy (first cs) ≡ n) → FirstToHold (c ∷ cs) n → (b : Bool) → c .applies ≡ b → numberBy (cond b (Refused (c .says)) (first cs)) ≡ n
   one-less rest h true a =
-      let most : n ≤ numberOf (c .says) = either (ltb (numberOf (c .says)) n) (λ t. absurd (true≢false (sym a ∙ sym (its-own c cs (numberOf (c .says)) refl) ∙ h .before (numberOf (c .says)) (ltb-true _ n t)))) (ltb-false _ n) in
-      either (eqb (numberOf (c .says)) n) (eqb-true _ n) (λ f. absurd (true≢false (sym (h .this) ∙ another's c cs n (eqb-false _ n f) ∙ later n most)))
+      either (eqb own n) (eqb-true _ n) (λ f. absurd (true≢false (sym a ∙ sym (its-own c (earlier cs n) own refl) ∙ ap (λ (l : List Check). holds l own) (sym (passed-by (eqb-false _ n f))) ∙ h .before own)))
   one-less rest h false a =
+      let other : own ≡ n → ⊥ = λ q. true≢false (sym (h .this) ∙ its-own c cs n q ∙ a) in
       rest (record {
-        this = sym (another's c cs n (λ q. true≢false (sym (h .this) ∙ its-own c cs n q ∙ a))) ∙ h .this;
-        before = λ m l. either (eqb (numberOf (c .says)) m) (λ t. later m (omega (arith, eqb-true _ m t))) (λ f. sym (another's c cs m (eqb-false _ m f)) ∙ h .before m l);
+        this = sym (another's c cs n other) ∙ h .this;
+        before = λ m. either (eqb own m) (λ t. ap (λ (k : ℕ). holds (earlier cs n) k) (sym (eqb-true _ m t)) ∙ missing own (earlier cs n) (missing-earlier own n cs u)) (λ f. sym (another's c (earlier cs n) m (eqb-false _ m f)) ∙ ap (λ (l : List Check). holds l m) (sym (passed-by other)) ∙ h .before m);
       })
 
-given : (l : List Check) (k n : ℕ) → Rising k l → 1 ≤ n → numberBy (first l) ≡ n → FirstToHold l n
-given [] k n u p e = absurd (omega (arith, p, e))
-given (c ∷ cs) k n u p e = one-more c cs n (u .1) (given cs (numberOf (c .says)) n (u .1) p) (c .applies) refl e
+given : (l : List Check) (n : ℕ) → distinct l ≡ true → 1 ≤ n → numberBy (first l) ≡ n → FirstToHold l n
+given [] n u p e = absurd (omega (arith, p, e))
+given (c ∷ cs) n u p e = let h = both (absent (numberOf (c .says)) cs) (distinct cs) u in one-more c cs n (h .0) (given cs n (h .1) p) (c .applies) refl e
 
-only-then : (l : List Check) (k n : ℕ) → Rising k l → FirstToHold l n → numberBy (first l) ≡ n
-only-then [] k n u h = absurd (true≢false (sym (h .this)))
-only-then (c ∷ cs) k n u h = one-less c cs n (u .1) (only-then cs (numberOf (c .says)) n (u .1)) h (c .applies) refl
+only-then : (l : List Check) (n : ℕ) → distinct l ≡ true → FirstToHold l n → numberBy (first l) ≡ n
+only-then [] n u h = absurd (true≢false (sym (h .this)))
+only-then (c ∷ cs) n u h = let d = both (absent (numberOf (c .says)) cs) (distinct cs) u in one-less c cs n (d .0) (only-then cs n (d .1)) h (c .applies) refl
 
 -- ---- success
 nothing-holds : (l : List Check) → numberBy (first l) ≡ 0 → (n : ℕ) → holds l n ≡ false
@@ -98,27 +128,49 @@ nothing-holds (c ∷ cs) e n = go (nothing-holds cs) (c .applies) refl e
     go rest true a e = absurd (some-number (c .says) e)
     go rest false a e = either (eqb (numberOf (c .says)) n) (λ t. its-own c cs n (eqb-true _ n t) ∙ a) (λ f. another's c cs n (eqb-false _ n f) ∙ rest e n)
 
-nothing-found : (l : List Check) (k : ℕ) → Rising k l → ((n : ℕ) → holds l n ≡ false) → numberBy (first l) ≡ 0
-nothing-found [] k u h = refl
-nothing-found (c ∷ cs) k u h =
-    let rest = nothing-found cs (numberOf (c .says)) (u .1) (λ n. either (eqb (numberOf (c .says)) n) (λ t. below cs (numberOf (c .says)) n (u .1) (omega (arith, eqb-true _ n t))) (λ f. sym (another's c cs n (eqb-false _ n f)) ∙ h n)) in
-    ap (λ (b : Bool). numberBy (cond b (Refused (c .says)) (first cs))) (sym (its-own c cs (numberOf (c .says)) refl) ∙ h (numberOf (c .says))) ∙ rest
+nothing-found : (l : List Check) → distinct l ≡ true → ((n : ℕ) → holds l n ≡ false) → numberBy (first l) ≡ 0
+nothing-found [] u h = refl
+nothing-found (c ∷ cs) u h =
+    let own = numberOf (c .says) in
+    let d = both (absent own cs) (distinct cs) u in
+    let rest = nothing-found cs (d .1) (λ n. either (eqb own n) (λ t. ap (λ (k : ℕ). holds cs k) (sym (eqb-true _ n t)) ∙ missing own cs (d .0)) (λ f. sym (another's c cs n (eqb-false _ n f)) ∙ h n)) in
+    ap (λ (b : Bool). numberBy (cond b (Refused (c .says)) (first cs))) (sym (its-own c cs own refl) ∙ h own) ∙ rest
+
+-- ---- conditions that do not hold, and a last one of which nothing is said
+pub clear-holds : (l : List Check) → Clear l → (n : ℕ) → holds l n ≡ false
+clear-holds [] h n = refl
+clear-holds (c ∷ cs) h n = either (eqb (numberOf (c .says)) n) (λ t. its-own c cs n (eqb-true _ n t) ∙ h .0) (λ f. another's c cs n (eqb-false _ n f) ∙ clear-holds cs (h .1) n)
+
+behind : (c : Check) (n : ℕ) → (n ≡ numberOf (c .says) → ⊥) → (l : List Check) → holds (l ++ (c ∷ [])) n ≡ holds l n
+behind c n other [] = another's c [] n (λ e. other (sym e))
+behind c n other (d ∷ ds) = ap (λ (t : Bool). cond (eqb (numberOf (d .says)) n) (d .applies) t) (behind c n other ds)
+
+pub but-last : (l : List Check) (c : Check) → ((n : ℕ) → holds l n ≡ false) → NoneBut (l ++ (c ∷ [])) (numberOf (c .says))
+but-last l c h n other = behind c n other l ∙ h n
+
+-- the others are then those that do not hold, where it has a number of its own
+pub of-front : (l : List Check) (c : Check) → absent (numberOf (c .says)) l ≡ true → NoneBut (l ++ (c ∷ [])) (numberOf (c .says)) → (n : ℕ) → holds l n ≡ false
+of-front l c a h n = either (eqb n (numberOf (c .says))) (λ t. ap (λ (k : ℕ). holds l k) (eqb-true n _ t) ∙ missing _ l a) (λ f. let other = eqb-false n _ f in sym (behind c n other l) ∙ h n other)
 
 -- ---- of a number that the list decides
-module _ (l : List Check) (u : Rising 0 l) {number : ℕ} (e : number ≡ numberBy (first l)) where
+module _ (l : List Check) (u : distinct l ≡ true) {number : ℕ} (e : number ≡ numberBy (first l)) where
   pub exactly : (n : ℕ) → 1 ≤ n → (number ≡ n) ↔ FirstToHold l n
-  exactly n p = (λ q. given l 0 n u p (sym e ∙ q), λ h. e ∙ only-then l 0 n u h)
+  exactly n p = (λ q. given l n u p (sym e ∙ q), λ h. e ∙ only-then l n u h)
 
   pub success : (number ≡ 0) ↔ ((n : ℕ) → holds l n ≡ false)
-  success = (λ q. nothing-holds l (sym e ∙ q), λ h. e ∙ nothing-found l 0 u h)
+  success = (λ q. nothing-holds l (sym e ∙ q), λ h. e ∙ nothing-found l u h)
 
--- ---- and none of the numbers above `top`
-pub at-most : (top : ℕ) (l : List Check) → allSay (λ (why : Refusal). leb (numberOf why) top) l ≡ true → {number : ℕ} → number ≡ numberBy (first l) → number ≤ top
-at-most top l h e = subst (λ (n : ℕ). n ≤ top) (sym e) (go (first l) refl)
+-- ---- and none but its numbers
+pub one-of : (numbers : List ℕ) (l : List Check) → allSay (λ (why : Refusal). among numbers (numberOf why)) l ≡ true → {number : ℕ} → number ≡ numberBy (first l) → among (0 ∷ numbers) number ≡ true
+one-of numbers l h e = subst (λ (n : ℕ). among (0 ∷ numbers) n ≡ true) (sym e) (go (first l) refl)
   where
-    go : (v : Verdict) → first l ≡ v → numberBy v ≤ top
-    go Passed q = omega arith
-    go (Refused why) q = leb-true (numberOf why) top (found-among (λ (why : Refusal). leb (numberOf why) top) l h why q)
+    some : (b c : Bool) → c ≡ true → (b || c) ≡ true
+    some true c e = refl
+    some false c e = e
+
+    go : (v : Verdict) → first l ≡ v → among (0 ∷ numbers) (numberBy v) ≡ true
+    go Passed q = refl
+    go (Refused why) q = some (eqb (numberOf why) 0) (among numbers (numberOf why)) (found-among (λ (why : Refusal). among numbers (numberOf why)) l h why q)
 
 -- ---- `shift` and `zoom`
 module _ (e : Entry) (r : Request) (input output : List Float) (coverage : List ℕ) (work : List Float) where
@@ -128,11 +180,8 @@ module _ (e : Entry) (r : Request) (input output : List Float) (coverage : List 
   abbrev number : ℕ
   number = numberIn (call e r input output coverage work .answer)
 
-  rising : Rising 0 tests
-  rising = elim e [
-    | shifting ↦ (lit≤ tt, (lit≤ tt, (lit≤ tt, (lit≤ tt, (lit≤ tt, (lit≤ tt, (lit≤ tt, tt)))))))
-    | zooming ↦ (lit≤ tt, (lit≤ tt, (lit≤ tt, (lit≤ tt, (lit≤ tt, (lit≤ tt, (lit≤ tt, (lit≤ tt, tt))))))))
-  ]
+  apart : distinct tests ≡ true
+  apart = elim e [ shifting ↦ refl | zooming ↦ refl ]
 
   pub numbered : number ≡ numberBy (first tests)
   unfolding shiftCall zoomCall
@@ -146,13 +195,13 @@ module _ (e : Entry) (r : Request) (input output : List Float) (coverage : List 
       by (Refused why) a = refl
 
   pub refusal-exactly : (n : ℕ) → 1 ≤ n → (number ≡ n) ↔ FirstToHold tests n
-  refusal-exactly = exactly tests rising numbered
+  refusal-exactly = exactly tests apart numbered
 
   pub success-exactly : (number ≡ 0) ↔ ((n : ℕ) → holds tests n ≡ false)
-  success-exactly = success tests rising numbered
+  success-exactly = success tests apart numbered
 
-  pub answered : number ≤ 9
-  answered = at-most 9 tests (elim e [ shifting ↦ refl | zooming ↦ refl ]) numbered
+  pub answered : among (0 ∷ 1 ∷ 3 ∷ 4 ∷ 12 ∷ 5 ∷ 6 ∷ 7 ∷ 8 ∷ 9 ∷ []) number ≡ true
+  answered = one-of (1 ∷ 3 ∷ 4 ∷ 12 ∷ 5 ∷ 6 ∷ 7 ∷ 8 ∷ 9 ∷ []) tests (elim e [ shifting ↦ refl | zooming ↦ refl ]) numbered
 
 -- ---- `spline_filter` and `spline_filter1d`
 module _ (f : Filter) (r : Request) (input output : List Float) where
@@ -162,13 +211,10 @@ module _ (f : Filter) (r : Request) (input output : List Float) where
   abbrev filterNumber : ℕ
   filterNumber = numberBy (filterCall f r input output .answer)
 
-  filter-rising : Rising 0 filterTests
-  filter-rising = elim f [
-    | whole ↦ (lit≤ tt, (lit≤ tt, (lit≤ tt, (lit≤ tt, (lit≤ tt, tt)))))
-    | along axis ↦ (lit≤ tt, (lit≤ tt, (lit≤ tt, (lit≤ tt, (lit≤ tt, (lit≤ tt, tt))))))
-  ]
+  filter-apart : distinct filterTests ≡ true
+  filter-apart = elim f [ whole ↦ refl | along axis ↦ refl ]
 
-  filter-numbered : filterNumber ≡ numberBy (first filterTests)
+  pub filter-numbered : filterNumber ≡ numberBy (first filterTests)
   unfolding splineFilterCall splineFilter1dCall
   filter-numbered = elim f [
     | whole ↦ by (first (filterChecks whole r input (length output))) _
@@ -180,13 +226,13 @@ module _ (f : Filter) (r : Request) (input output : List Float) where
       by (Refused why) filtered = refl
 
   pub filter-refusal-exactly : (n : ℕ) → 1 ≤ n → (filterNumber ≡ n) ↔ FirstToHold filterTests n
-  filter-refusal-exactly = exactly filterTests filter-rising filter-numbered
+  filter-refusal-exactly = exactly filterTests filter-apart filter-numbered
 
   pub filter-success-exactly : (filterNumber ≡ 0) ↔ ((n : ℕ) → holds filterTests n ≡ false)
-  filter-success-exactly = success filterTests filter-rising filter-numbered
+  filter-success-exactly = success filterTests filter-apart filter-numbered
 
-  pub filter-answered : filterNumber ≤ 9
-  filter-answered = at-most 9 filterTests (elim f [ whole ↦ refl | along axis ↦ refl ]) filter-numbered
+  pub filter-answered : among (0 ∷ 1 ∷ 2 ∷ 3 ∷ 6 ∷ 7 ∷ 8 ∷ []) filterNumber ≡ true
+  filter-answered = one-of (1 ∷ 2 ∷ 3 ∷ 6 ∷ 7 ∷ 8 ∷ []) filterTests (elim f [ whole ↦ refl | along axis ↦ refl ]) filter-numbered
 
 -- ---- one voxel of `shift` or `zoom` (#105)
 module _ (e : Entry) (r : Request) (input work : List Float) (at : List ℕ) (value : List Float) (code : List ℕ) where
@@ -196,11 +242,8 @@ module _ (e : Entry) (r : Request) (input work : List Float) (at : List ℕ) (va
   abbrev voxelNumber : ℕ
   voxelNumber = numberBy (voxelCall e r input work at value code .answer)
 
-  voxel-rising : Rising 0 voxelTests
-  voxel-rising = elim e [
-    | shifting ↦ (lit≤ tt, (lit≤ tt, (lit≤ tt, (lit≤ tt, (lit≤ tt, (lit≤ tt, (lit≤ tt, (lit≤ tt, tt))))))))
-    | zooming ↦ (lit≤ tt, (lit≤ tt, (lit≤ tt, (lit≤ tt, (lit≤ tt, (lit≤ tt, (lit≤ tt, (lit≤ tt, (lit≤ tt, tt)))))))))
-  ]
+  voxel-apart : distinct voxelTests ≡ true
+  voxel-apart = elim e [ shifting ↦ refl | zooming ↦ refl ]
 
   pub voxel-numbered : voxelNumber ≡ numberBy (first voxelTests)
   unfolding shiftVoxelCall zoomVoxelCall
@@ -214,10 +257,10 @@ module _ (e : Entry) (r : Request) (input work : List Float) (at : List ℕ) (va
       by (Refused why) made = refl
 
   pub voxel-refusal-exactly : (n : ℕ) → 1 ≤ n → (voxelNumber ≡ n) ↔ FirstToHold voxelTests n
-  voxel-refusal-exactly = exactly voxelTests voxel-rising voxel-numbered
+  voxel-refusal-exactly = exactly voxelTests voxel-apart voxel-numbered
 
   pub voxel-success-exactly : (voxelNumber ≡ 0) ↔ ((n : ℕ) → holds voxelTests n ≡ false)
-  voxel-success-exactly = success voxelTests voxel-rising voxel-numbered
+  voxel-success-exactly = success voxelTests voxel-apart voxel-numbered
 
-  pub voxel-answered : voxelNumber ≤ 11
-  voxel-answered = at-most 11 voxelTests (elim e [ shifting ↦ refl | zooming ↦ refl ]) voxel-numbered
+  pub voxel-answered : among (0 ∷ 1 ∷ 3 ∷ 4 ∷ 12 ∷ 5 ∷ 6 ∷ 7 ∷ 8 ∷ 9 ∷ 11 ∷ []) voxelNumber ≡ true
+  voxel-answered = one-of (1 ∷ 3 ∷ 4 ∷ 12 ∷ 5 ∷ 6 ∷ 7 ∷ 8 ∷ 9 ∷ 11 ∷ []) voxelTests (elim e [ shifting ↦ refl | zooming ↦ refl ]) voxel-numbered

@@ -16,12 +16,14 @@ use Rattle.coverage.specs.declared.counts.Counts.{Counts}
 use Rattle.coverage.specs.Coverage.{codeBy, ownCode, keptAt}
 use Rattle.request.specs.declared.Request.{Request}
 use Rattle.request.specs.Conditions.{besideAny}
+use Rattle.refusal.specs.declared.Refusal.the-variants.{Beside}
+use Rattle.refusal.specs.Refusals.{when}
 use Rattle.resample.specs.Call.{numberIn, countsIn}
 use Rattle.promises.specs.Entries.{Entry, shifting, zooming, call, checks, axesOf, outputDims}
-use Rattle.promises.specs.Given.{holds, FirstToHold}
+use Rattle.promises.specs.Given.{earlier, FirstToHold, NoneBut}
 use Rattle.promises.specs.Place.{Inside, code}
 use Rattle.promises.specs.Marks.{bearing}
-use Rattle.promises.proofs.Given.{refusal-exactly, success-exactly}
+use Rattle.promises.proofs.Given.{but-last, refusal-exactly, success-exactly}
 use Rattle.promises.proofs.Succeeding.{succeeds}
 use Rattle.promises.proofs.Places.{each-place, code-is}
 use Rattle.promises.proofs.Counted.{counted}
@@ -61,10 +63,10 @@ module _ {e : Entry} {r : Request} (s : AllSpan e r) where
       go all e false = inl (simp e)
       go all e true = inr (simp e)
 
--- ---- over the calls, where this follows once refusals 1 to 5 do not apply
+-- ---- over the calls, where this follows once no refusal but 9 applies
 module _ (e : Entry) (r : Request) (input output : List Float) (coverage : List ℕ) (work : List Float) where
   abbrev pub Clear : Type 0
-  Clear = (n : ℕ) → n ≤ 5 → holds (checks e r input (length output) (length coverage) (length work)) n ≡ false
+  Clear = NoneBut (checks e r input (length output) (length coverage) (length work)) 9
 
   module _ (spans : Clear → AllSpan e r) where
     abbrev number : ℕ
@@ -76,8 +78,13 @@ module _ (e : Entry) (r : Request) (input output : List Float) (coverage : List 
     pub kept-never-beside : number ≡ 9 → ⊥
     kept-never-beside q =
         let f = refusal-exactly e r input output coverage work 9 (lit≤ tt) .0 q in
-        true≢false (sym (ninth e f) ∙ none-beside (spans (λ n l. f .before n (omega arith))))
+        true≢false (sym (ninth e f) ∙ none-beside (spans (but-nine e f)))
       where
+        -- it is the last check
+        but-nine : (e : Entry) → FirstToHold (checks e r input (length output) (length coverage) (length work)) 9 → NoneBut (checks e r input (length output) (length coverage) (length work)) 9
+        but-nine shifting f = but-last (earlier (checks shifting r input (length output) (length coverage) (length work)) 9) (when Beside (besideAny r (axesOf shifting r))) (f .before)
+        but-nine zooming f = but-last (earlier (checks zooming r input (length output) (length coverage) (length work)) 9) (when Beside (besideAny r (axesOf zooming r))) (f .before)
+
         ninth : (e : Entry) → FirstToHold (checks e r input (length output) (length coverage) (length work)) 9 → besideAny r (axesOf e r) ≡ true
         ninth shifting f = f .this
         ninth zooming f = f .this

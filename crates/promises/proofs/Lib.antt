@@ -5,6 +5,7 @@ pub mod Given
 pub mod Limits
 pub mod Refused
 pub mod Succeeding
+pub mod Slices
 pub mod Places
 pub mod Marked
 pub mod Counted

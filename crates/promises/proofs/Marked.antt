@@ -22,11 +22,11 @@ use Rattle.voxels.specs.Voxel.{tapOf, computed, voxelAt}
 use Rattle.request.specs.declared.Request.{Request}
 use Rattle.request.specs.Sizes.{padding}
 use Rattle.request.specs.Bookkeeping.{Lengths}
-use Rattle.request.proofs.Requests.{pad-most}
+use Rattle.request.proofs.Requests.{padding-most}
 use Rattle.resample.specs.Call.{numberIn, coefficients}
 use Rattle.promises.specs.Entries.{Entry, shifting, zooming, call, axesOf, outputDims}
 use Rattle.promises.specs.Place.{Inside, voxel, code}
-use Rattle.promises.specs.Marks.{FromInside, FromOutside, Means}
+use Rattle.promises.specs.Marks.{padOn, FromInside, FromOutside, Means}
 use Rattle.promises.proofs.Succeeding.{Succeeds, succeeds}
 use Rattle.promises.proofs.Places.{code-is, voxel-is}
 
@@ -105,7 +105,7 @@ module _ (mode : BorderMode) where
   defaults false some v e = drops mode .defaulted e
 
 -- ---- one axis: its tests in whole numbers
-module _ (r : Request) {a : Axis} {length : ℕ} (b : Padded a length (padding r)) (i : ℕ) (reached : Reached (r .order) a i) where
+module _ (r : Request) {a : Axis} {length : ℕ} (b : Padded a length (padOn r length)) (i : ℕ) (reached : Reached (r .order) a i) where
   axis-inside : keptAt (r .mode) a i ≡ true → (foldedAt (r .order) (r .mode) a i ≡ false) ↔ FromInside r length a i
   unfolding keptAt
   axis-inside k = (unfolded-inside (r .order) (r .mode) b i reached k, inside-unfolded (r .order) (r .mode) b i)
@@ -123,17 +123,17 @@ padded-zoom length out pad l p = record { long = refl; stands = refl; short = om
 
 -- the axes of a request that refusal 3 lets pass
 pub record Admits (e : Entry) (r : Request) : Type 0 where
-  pub x : Padded (axesOf e r .x) (getD (r .dims) 0 0) (padding r)
-  pub y : Padded (axesOf e r .y) (getD (r .dims) 1 0) (padding r)
-  pub z : Padded (axesOf e r .z) (getD (r .dims) 2 0) (padding r)
+  pub x : Padded (axesOf e r .x) (getD (r .dims) 0 0) (padding r 0)
+  pub y : Padded (axesOf e r .y) (getD (r .dims) 1 0) (padding r 1)
+  pub z : Padded (axesOf e r .z) (getD (r .dims) 2 0) (padding r 2)
 
 pub admits : (e : Entry) (r : Request) → Lengths (r .dims) → Admits e r
 admits shifting r d =
-    let p = pad-most r refl in
-    record { x = padded-shift _ _ _ (d 0 (lit< tt) .1) p; y = padded-shift _ _ _ (d 1 (lit< tt) .1) p; z = padded-shift _ _ _ (d 2 (lit< tt) .1) p }
+    let p : (c : ℕ) → padding r c ≤ 12 = λ c. padding-most r c refl in
+    record { x = padded-shift _ _ _ (d 0 (lit< tt) .1) (p 0); y = padded-shift _ _ _ (d 1 (lit< tt) .1) (p 1); z = padded-shift _ _ _ (d 2 (lit< tt) .1) (p 2) }
 admits zooming r d =
-    let p = pad-most r refl in
-    record { x = padded-zoom _ _ _ (d 0 (lit< tt) .1) p; y = padded-zoom _ _ _ (d 1 (lit< tt) .1) p; z = padded-zoom _ _ _ (d 2 (lit< tt) .1) p }
+    let p : (c : ℕ) → padding r c ≤ 12 = λ c. padding-most r c refl in
+    record { x = padded-zoom _ _ _ (d 0 (lit< tt) .1) (p 0); y = padded-zoom _ _ _ (d 1 (lit< tt) .1) (p 1); z = padded-zoom _ _ _ (d 2 (lit< tt) .1) (p 2) }
 
 module _ (e : Entry) (r : Request) (input output : List Float) (coverage : List ℕ) (work : List Float) (done : numberIn (call e r input output coverage work .answer) ≡ 0) (i j k : ℕ) (h : Inside (outputDims e r) i j k) where
   abbrev x : Axis

@@ -17,7 +17,7 @@ use Rattle.refusal.specs.declared.Asked.the-variants.{Volume}
 use Rattle.refusal.specs.Refusals.{shiftChecks}
 use Rattle.resample.specs.Call.{numberIn, coefficients, shiftCall}
 use Rattle.promises.specs.Entries.{shifting, outputDims}
-use Rattle.promises.specs.Given.{holds}
+use Rattle.promises.specs.Given.{NoneBut}
 use Rattle.promises.specs.Place.{Inside, voxel, code}
 use Rattle.promises.specs.Moves.{F64s, Whole, Outside, Moved}
 use Rattle.promises.proofs.Places.{code-is, voxel-is}
@@ -86,7 +86,7 @@ module _ {r : Request} {input output : List Float} {coverage : List ℕ} {work :
 
 pub whole-shift-moves :
     (r : Request) (input output : List Float) (coverage : List ℕ) (work : List Float) (fill : Float) (s : ℕ → ℤ) → r .mode ≡ Constant fill → r .order ≤ 1 → Whole r s → F64s input →
-    ((n : ℕ) → n ≤ 8 → holds (shiftChecks Volume r input (length output) (length coverage) (length work)) n ≡ false) →
+    NoneBut (shiftChecks Volume r input (length output) (length coverage) (length work)) 9 →
     (numberIn (shiftCall r input output coverage work .answer) ≡ 0) × Moved (r .dims) s fill input (shiftCall r input output coverage work .output) (shiftCall r input output coverage work .coverage)
 whole-shift-moves r input output coverage work fill s constant low whole f64 clear =
     let a : Asked r input output coverage work fill s = record { constant = constant; low = low; whole = whole; f64 = f64; clear = clear } in

@@ -1,10 +1,9 @@
--- Where none of the nine refusals' conditions holds, the call succeeds.
-use Prim.Native.Nat.{ℕ, zero, suc, _≤_}
-use native.Mathlib.Nat.{eq-or-lt-of-le}
-use native.Mathlib.Omega.{arith}
-use mathlib.Core.Path.{_≡_, refl, sym, _∙_, subst}
-use mathlib.Core.Logic.{inl, inr}
-use mathlib.Core.Bool.{false, true≢false}
+-- Where no refusal's condition holds, the call succeeds: no other's, and 9's neither.
+use Prim.Native.Nat.{ℕ}
+use native.Mathlib.Decide.{ℕ-discrete}
+use mathlib.Core.Path.{_≡_, sym, subst}
+use mathlib.Core.Logic.{dite}
+use mathlib.Core.Bool.{false}
 use mathlib.Core.List.{List}
 use lib.ListN.{length}
 use lib.Ieee.{Float}
@@ -12,8 +11,8 @@ use Rattle.request.specs.declared.Request.{Request}
 use Rattle.refusal.specs.Refusals.{Check}
 use Rattle.resample.specs.Call.{numberIn}
 use Rattle.promises.specs.Entries.{Entry, call, checks}
-use Rattle.promises.specs.Given.{holds}
-use Rattle.promises.proofs.Given.{refusal-exactly, answered}
+use Rattle.promises.specs.Given.{holds, NoneBut}
+use Rattle.promises.proofs.Given.{success-exactly}
 
 module _ (e : Entry) (r : Request) (input output : List Float) (coverage : List ℕ) (work : List Float) where
   abbrev number : ℕ
@@ -22,12 +21,5 @@ module _ (e : Entry) (r : Request) (input output : List Float) (coverage : List 
   abbrev tests : List Check
   tests = checks e r input (length output) (length coverage) (length work)
 
-  pub nine-clear : ((n : ℕ) → n ≤ 8 → holds tests n ≡ false) → holds tests 9 ≡ false → number ≡ 0
-  nine-clear h last = go number refl
-    where
-      none : (n : ℕ) → n ≤ 9 → holds tests n ≡ false
-      none n l = elim (eq-or-lt-of-le l) [ inl e ↦ subst (λ (m : ℕ). holds tests m ≡ false) (sym e) last | inr b ↦ h n (omega arith) ]
-
-      go : (n : ℕ) → number ≡ n → number ≡ 0
-      go zero q = q
-      go (suc n) q = absurd (true≢false (sym (refusal-exactly e r input output coverage work (suc n) (omega arith) .0 q .this) ∙ none (suc n) (omega (arith, answered e r input output coverage work))))
+  pub nine-clear : NoneBut tests 9 → holds tests 9 ≡ false → number ≡ 0
+  nine-clear h last = success-exactly e r input output coverage work .1 (λ n. dite (ℕ-discrete n 9) (λ q. subst (λ (m : ℕ). holds tests m ≡ false) (sym q) last) (h n))

@@ -2,9 +2,8 @@
 use Prim.Native.Nat.{ℕ, _≤_}
 use mathlib.Core.Path.{_≡_, refl, sym, ap, _∙_, subst}
 use mathlib.Core.Logic.{_↔_}
-use mathlib.Core.Bool.{Bool, false}
+use mathlib.Core.Bool.{Bool, true, false}
 use mathlib.Core.List.{List, [], _∷_}
-use lib.Dec.{lit≤}
 use lib.ListN.{length, getD}
 use lib.Ieee.{Float, nan}
 use Rattle.border.specs.declared.BorderMode.{BorderMode}
@@ -21,9 +20,9 @@ use Rattle.one_voxel.specs.declared.Voxel.{Voxel}
 use Rattle.one_voxel.specs.Call.{lentSource, voxelOf, voxelCallBy, shiftVoxelCall, zoomVoxelCall}
 use Rattle.one_voxel.specs.Points.{PointCall, pointCallOf, pointCallBy, shiftPointCall, zoomPointCall}
 use Rattle.promises.specs.Entries.{Entry, shifting, zooming, axesOf, voxelCall, voxelChecks, pointCall, pointChecks}
-use Rattle.promises.specs.Given.{holds, FirstToHold}
+use Rattle.promises.specs.Given.{holds, FirstToHold, among}
 use Rattle.promises.specs.OnPaper.{axisCall, byHand}
-use Rattle.promises.proofs.Given.{Rising, some-number, exactly, success, at-most}
+use Rattle.promises.proofs.Given.{distinct, some-number, exactly, success, one-of}
 use Rattle.promises.proofs.Succeeding.{passed}
 
 -- ---- the refusals
@@ -39,18 +38,15 @@ module _ (e : Entry) (n : ℕ) (factor : Float) (order : ℕ) (prefilter : Bool)
 
   -- the axis that is asked for
   abbrev axisOf : Axis
-  axisOf = elim e [ shifting ↦ shiftAxis n factor (padOf mode prefilter order) | zooming ↦ zoomAxis n (outputLength n factor) (padOf mode prefilter order) ]
+  axisOf = elim e [ shifting ↦ shiftAxis n factor (padOf mode prefilter order n) | zooming ↦ zoomAxis n (outputLength n factor) (padOf mode prefilter order n) ]
 
   -- the call by its verdict
   by-tests : pointed ≡ pointCallBy (first pointTests) order mode axisOf i coordinate at weight
   unfolding shiftPointCall zoomPointCall
   by-tests = elim e [ shifting ↦ refl | zooming ↦ refl ]
 
-  point-rising : Rising 0 pointTests
-  point-rising = elim e [
-    | shifting ↦ (lit≤ tt, (lit≤ tt, (lit≤ tt, (lit≤ tt, (lit≤ tt, (lit≤ tt, tt))))))
-    | zooming ↦ (lit≤ tt, (lit≤ tt, (lit≤ tt, (lit≤ tt, (lit≤ tt, (lit≤ tt, (lit≤ tt, tt)))))))
-  ]
+  point-apart : distinct pointTests ≡ true
+  point-apart = elim e [ shifting ↦ refl | zooming ↦ refl ]
 
   pub point-numbered : pointNumber ≡ numberBy (first pointTests)
   point-numbered = ap (λ (c : PointCall). numberBy (c .answer)) by-tests ∙ by (first pointTests)
@@ -60,13 +56,13 @@ module _ (e : Entry) (n : ℕ) (factor : Float) (order : ℕ) (prefilter : Bool)
       by (Refused why) = refl
 
   pub point-refusal-exactly : (m : ℕ) → 1 ≤ m → (pointNumber ≡ m) ↔ FirstToHold pointTests m
-  point-refusal-exactly = exactly pointTests point-rising point-numbered
+  point-refusal-exactly = exactly pointTests point-apart point-numbered
 
   pub point-success-exactly : (pointNumber ≡ 0) ↔ ((m : ℕ) → holds pointTests m ≡ false)
-  point-success-exactly = success pointTests point-rising point-numbered
+  point-success-exactly = success pointTests point-apart point-numbered
 
-  pub point-answered : pointNumber ≤ 11
-  point-answered = at-most 11 pointTests (elim e [ shifting ↦ refl | zooming ↦ refl ]) point-numbered
+  pub point-answered : among (0 ∷ 1 ∷ 3 ∷ 4 ∷ 12 ∷ 5 ∷ 7 ∷ 9 ∷ 11 ∷ []) pointNumber ≡ true
+  point-answered = one-of (1 ∷ 3 ∷ 4 ∷ 12 ∷ 5 ∷ 7 ∷ 9 ∷ 11 ∷ []) pointTests (elim e [ shifting ↦ refl | zooming ↦ refl ]) point-numbered
 
   -- a refusal writes nothing
   pub point-refusal-leaves : (pointNumber ≡ 0 → ⊥) → pointed ≡ pointCallOf (pointed .answer) coordinate at weight

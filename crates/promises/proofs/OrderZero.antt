@@ -10,15 +10,16 @@ use borrow.Author.Tests.{eq-eqb}
 use Rattle.exact.specs.Rounded.{num}
 use Rattle.lists.proofs.Somes.{none-at, or-false}
 use Rattle.axis.specs.declared.coordinate.Axis.{Axis}
+use Rattle.axis.specs.Coordinate.{padOf}
+use Rattle.axis.specs.Weights.{orderOn}
 use Rattle.axis.specs.Point.{besideAt, someBeside}
 use Rattle.axis.specs.Folded.{foldedAt}
-use Rattle.axis.specs.Bookkeeping.{Reached}
 use Rattle.axis.proofs.Coordinates.{low-pad}
+use Rattle.axis.proofs.Points.{order-most}
 use Rattle.axis.proofs.Folding.{Padded, order-0-unfolded}
 use Rattle.coverage.specs.Coverage.{keptAt, ownCode}
 use Rattle.axis.specs.Bookkeeping.{Reaches}
 use Rattle.request.specs.declared.Request.{Request}
-use Rattle.request.specs.Sizes.{padding}
 use Rattle.request.specs.Conditions.{besideAny}
 use Rattle.resample.specs.Call.{numberIn}
 use Rattle.promises.specs.Entries.{Entry, shifting, zooming, call, axesOf, outputDims}
@@ -35,16 +36,14 @@ module _ (r : Request) (input output : List Float) (coverage : List ℕ) (work :
   clear zooming done = success-exactly zooming r input output coverage work .0 done 9
 
   module _ (zero : r .order ≡ 0) where
-    unpadded : padding r ≡ 0
-    unpadded = low-pad (r .mode) (r .prefilter) (r .order) (omega (arith, zero))
-
     -- one axis of it
-    axis-never : {a : Axis} {length : ℕ} → Padded a length (padding r) → Reaches (r .order) a → someBeside (r .mode) a ≡ false → (i : ℕ) → i < a .out → keptAt (r .mode) a i ≡ true → foldedAt (r .order) (r .mode) a i ≡ true → ⊥
+    axis-never : {a : Axis} {length : ℕ} → Padded a length (padOf (r .mode) (r .prefilter) (r .order) length) → Reaches (r .order) a → someBeside (r .mode) a ≡ false → (i : ℕ) → i < a .out → keptAt (r .mode) a i ≡ true → foldedAt (r .order) (r .mode) a i ≡ true → ⊥
     unfolding keptAt someBeside
-    axis-never {a} b reaches beside i l k f =
-        let at : Reached 0 a i = subst (λ (o : ℕ). Reached o a i) zero (reaches .each i l) in
-        let pad : a .pad ≡ num 0 = subst (λ (p : ℕ). a .pad ≡ num p) unpadded (b .stands) in
-        true≢false (sym f ∙ subst (λ (o : ℕ). foldedAt o (r .mode) a i ≡ false) (sym zero) (order-0-unfolded (r .mode) a i pad at k (none-at (besideAt (r .mode) a) (a .out) beside i l)))
+    axis-never {a} {length} b reaches beside i l k f =
+        let none = low-pad (r .mode) (r .prefilter) (r .order) length (omega (arith, zero)) in
+        let pad : a .pad ≡ num 0 = subst (λ (p : ℕ). a .pad ≡ num p) none (b .stands) in
+        let zeroth : orderOn (a .len) (r .order) ≡ 0 = omega (arith, order-most (a .len) (r .order) {k = 0} (omega (arith, zero))) in
+        true≢false (sym f ∙ order-0-unfolded (r .order) (r .mode) a i zeroth pad (reaches .each i l) k (none-at (besideAt (r .mode) a) (a .out) beside i l))
 
     pub order-0-never-folds : (e : Entry) → numberIn (call e r input output coverage work .answer) ≡ 0 → (i j k : ℕ) → Inside (outputDims e r) i j k → code (outputDims e r) (call e r input output coverage work .coverage) i j k ≡ 3 → ⊥
     unfolding ownCode besideAny

@@ -1,11 +1,12 @@
 -- "And the opposite shift brings them back": every voxel that had stayed inside is given back, as a number, with the fill in all other places. That the second call is not refused is part of it.
 use Prim.Native.Nat.{ℕ, _≤_}
+use native.Mathlib.Omega.{arith}
 use mathlib.Core.Path.{_≡_, sym, ap, _∙_, subst}
 use mathlib.Core.Logic.{⊎-map}
 use mathlib.Core.Bool.{false, _||_}
 use mathlib.Core.List.{List}
 use lib.IntN.{ℤ, pos, negℤ, _+ℤ_, _-ℤ_, negℤ-negℤ, +ℤ-negℤ-cancel}
-use lib.Dec.{T, lit≤}
+use lib.Dec.{T}
 use lib.ListN.{length, getD}
 use lib.Ieee.{Float, nan, binary64, fits}
 use Rattle.lists.proofs.Somes.{some-none, none-at, or-false}
@@ -17,10 +18,11 @@ use Rattle.request.specs.Conditions.{badLengths, tooLarge, wild, wildFill, some
 use Rattle.refusal.specs.declared.Asked.the-variants.{Volume}
 use Rattle.refusal.specs.Refusals.{shiftChecks}
 use Rattle.resample.specs.Call.{Call, numberIn, shiftCall}
-use Rattle.promises.specs.Given.{holds}
+use Rattle.promises.specs.Given.{NoneBut}
 use Rattle.promises.specs.Place.{voxel}
 use Rattle.promises.specs.Moves.{F64s, Whole, Outside, Moved, Returned}
 use Rattle.promises.proofs.Sames.{same-trans, tame-same}
+use Rattle.promises.proofs.Slices.{slice-still}
 use Rattle.promises.proofs.Moving.{moved}
 use Rattle.promises.proofs.Images.{result-length, each}
 use Rattle.promises.proofs.WholeRequest.{Asked, succeeded, success}
@@ -53,7 +55,7 @@ module _ {r : Request} {input output : List Float} {coverage : List ℕ} {work :
 
   -- ---- the first output is again an input that refusal 8 lets pass
   values : (wildFill (r .mode) ≡ false) × (someWild input ≡ false)
-  values = or-false (wildFill (r .mode)) (someWild input) (a .clear 8 (lit≤ tt))
+  values = or-false (wildFill (r .mode)) (someWild input) (a .clear 8 (λ e. omega (arith, e)))
 
   again-f64 : F64s (there .output)
   again-f64 = each a (λ v. T (fits binary64 v)) fill64 (λ m v l h. h .is64)
@@ -68,14 +70,15 @@ module _ {r : Request} {input output : List Float} {coverage : List ℕ} {work :
   -- ---- the second call
   module _ (back : Request) (output' : List Float) (coverage' : List ℕ) (work' : List Float) (dims : back .dims ≡ r .dims) (constant : back .mode ≡ Constant fill) (low : back .order ≤ 1) (whole : Whole back (λ i. negℤ (s i)))
       (values' : length output' ≡ length output) (codes' : length coverage' ≡ length coverage) where
-    ready : Ready back (there .output) (length output') (length coverage')
+    ready : Ready back (λ i. negℤ (s i)) (there .output) (length output') (length coverage')
     ready =
         let p = success a .passes in
         let n = countOf (r .dims) in
         let count : n ≡ countOf (back .dims) = ap countOf (sym dims) in
         record {
-          lengths = ap badLengths dims ∙ a .clear 3 (lit≤ tt);
-          count = ap (λ (d : List ℕ). tooLarge (countOf d)) dims ∙ or-false (tooLarge n) (tooLarge n) (or-false (tooLarge n || tooLarge n) (tooLarge (needed r)) (a .clear 6 (lit≤ tt)) .0) .0;
+          lengths = ap badLengths dims ∙ a .clear 3 (λ e. omega (arith, e));
+          still = λ i l one. ap negℤ (slice-still r (a .clear 12 (λ e. omega (arith, e))) i l (a .whole i l .0) (ap (λ (d : List ℕ). getD d i 0) (sym dims) ∙ one));
+          count = ap (λ (d : List ℕ). tooLarge (countOf d)) dims ∙ or-false (tooLarge n) (tooLarge n) (or-false (tooLarge n || tooLarge n) (tooLarge (needed r)) (a .clear 6 (λ e. omega (arith, e))) .0) .0;
           all = result-length a ∙ count;
           values = values' ∙ p .values ∙ count;
           codes = codes' ∙ p .codes ∙ count;
@@ -93,7 +96,7 @@ module _ {r : Request} {input output : List Float} {coverage : List ℕ} {work :
 
 pub shift-back :
     (r : Request) (input output : List Float) (coverage : List ℕ) (work : List Float) (fill : Float) (s : ℕ → ℤ) → r .mode ≡ Constant fill → r .order ≤ 1 → Whole r s → F64s input → T (fits binary64 fill) →
-    ((n : ℕ) → n ≤ 8 → holds (shiftChecks Volume r input (length output) (length coverage) (length work)) n ≡ false) →
+    NoneBut (shiftChecks Volume r input (length output) (length coverage) (length work)) 9 →
     (back : Request) (output' : List Float) (coverage' : List ℕ) (work' : List Float) → back .dims ≡ r .dims → back .mode ≡ Constant fill → back .order ≤ 1 → Whole back (λ i. negℤ (s i)) →
     length output' ≡ length output → length coverage' ≡ length coverage →
     let there = shiftCall r input output coverage work in let again = shiftCall back (there .output) output' coverage' work' in

@@ -7,20 +7,22 @@ use mathlib.Core.Bool.{false}
 use lib.IntN.{pos}
 use lib.Dec.{lit≤}
 use lib.Ieee.{Float, le}
+use Rattle.limits.proofs.Singles.{two-long}
 use Rattle.exact.specs.Rounded.{_⊕_, _⊗_, _⊘_, num}
 use Rattle.exact.proofs.Whole.{add-W}
 use Rattle.border.specs.declared.BorderMode.{BorderMode}
 use Rattle.border.specs.declared.BorderMode.the-variants.{Constant, Mirror, Nearest, Reflect, Wrap, Replicate}
 use Rattle.border.proofs.Arms.{inside}
 use Rattle.axis.specs.declared.coordinate.Axis.{Axis}
-use Rattle.axis.specs.Coordinate.{zoomAxis, unpadded, coordinate, settled}
+use Rattle.axis.specs.Coordinate.{zoomAxis, unpadded, coordinate, folds, settledBy, settled}
+use Rattle.axis.proofs.Coordinates.{long-settled}
 use Rattle.axis.proofs.Reaches.{zoom-reaches}
 use Rattle.exact.proofs.Upto.{Upto, upto-num, upto-sum, upto-multiple, upto-quotient, upto-least, upto-below}
 use Rattle.promises.proofs.Spans.{Spans, replicate-spans}
 
--- what refusals 3 and 5 let pass, and a pad
+-- what refusals 3, 12 and 5 let pass on an axis that is no single slice, and a pad
 pub record Spread (length out pad : ℕ) : Type 0 where
-  pub some : 1 ≤ length
+  pub long : 2 ≤ length
   pub short : length ≤ 4096
   pub two : 2 ≤ out
   pub most : out ≤ 4096
@@ -47,11 +49,14 @@ module _ {length out pad : ℕ} (h : Spread length out pad) (i : ℕ) (l : i < o
       let up : i * unitsOfRatio ≤ (out - 1) * unitsOfRatio = mul-le-mul-right unitsOfRatio (omega arith) in
       omega (arith, mul-add (out - 1) (whole / (out - 1)) 1, mul-comm (out - 1) (whole / (out - 1)), div-mul-le-self whole (out - 1))
 
+  quotient : axis .ratio ≡ num (length - 1) ⊘ num (out - 1)
+  quotient = simp (two-long length (h .long))
+
   coordinate-upto : Upto (whole + 4095 + pad * 2 ^ 14) (coordinate axis i)
   unfolding coordinate unpadded
   coordinate-upto =
       let index : num i ≡ num i ⊕ num 0 = ap num (sym (add-zero i)) ∙ sym (add-W (pos i) (pos 0) (omega arith) (lit≤ tt)) in
-      upto-sum (subst (λ (x : Float). Upto (whole + 4095) (x ⊗ (num (length - 1) ⊘ num (out - 1)))) index (upto-multiple i (omega arith) ratio-upto last (omega arith))) (upto-num pad (omega arith)) (omega arith)
+      upto-sum (subst (λ (x : Float). Upto (whole + 4095) x) (λ t. index t ⊗ sym quotient t) (upto-multiple i (omega arith) ratio-upto last (omega arith))) (upto-num pad (omega arith)) (omega arith)
 
   -- ---- so it settles where it stands, or in Replicate on the last voxel
   spans : {mode : BorderMode} → coordinate axis i ≡ settled mode axis i → Spans mode axis i
@@ -60,11 +65,13 @@ module _ {length out pad : ℕ} (h : Spread length out pad) (i : ℕ) (l : i < o
   before-end : le (num (axis .len)) (coordinate axis i) ≡ false
   before-end = upto-below coordinate-upto (axis .len) (omega arith) (omega arith)
 
+  unmoved : (mode : BorderMode) → settledBy (folds mode) mode axis i ≡ settled mode axis i
+  unmoved mode = sym (long-settled mode axis i (two-long (axis .len) (omega (arith, h .long))))
+
   pub zoom-spans : (mode : BorderMode) → Spans mode axis i
-  unfolding settled
-  zoom-spans (Constant fill) = spans (inside (Constant fill) (coordinate axis i) (num (axis .len)) (upto-least coordinate-upto) before-end)
-  zoom-spans Mirror = spans (inside Mirror (coordinate axis i) (num (axis .len)) (upto-least coordinate-upto) before-end)
-  zoom-spans Nearest = spans refl
-  zoom-spans Reflect = spans (inside Reflect (coordinate axis i) (num (axis .len)) (upto-least coordinate-upto) before-end)
-  zoom-spans Wrap = spans (inside Wrap (coordinate axis i) (num (axis .len)) (upto-least coordinate-upto) before-end)
-  zoom-spans Replicate = replicate-spans (record { long = refl; stands = refl; short = omega arith }) (h .some) i (zoom-reaches length out pad i (h .short) (h .two) (h .most) (omega arith))
+  zoom-spans (Constant fill) = spans (inside (Constant fill) (coordinate axis i) (num (axis .len)) (upto-least coordinate-upto) before-end ∙ unmoved (Constant fill))
+  zoom-spans Mirror = spans (inside Mirror (coordinate axis i) (num (axis .len)) (upto-least coordinate-upto) before-end ∙ unmoved Mirror)
+  zoom-spans Nearest = spans (unmoved Nearest)
+  zoom-spans Reflect = spans (inside Reflect (coordinate axis i) (num (axis .len)) (upto-least coordinate-upto) before-end ∙ unmoved Reflect)
+  zoom-spans Wrap = spans (inside Wrap (coordinate axis i) (num (axis .len)) (upto-least coordinate-upto) before-end ∙ unmoved Wrap)
+  zoom-spans Replicate = replicate-spans (record { long = refl; stands = refl; short = omega arith }) (h .long) i (zoom-reaches length out pad i (h .short) (λ _. h .two) (h .most) (omega arith))

@@ -1,13 +1,15 @@
 -- The record of a whole coordinate x inside its axis, at orders 0 and 1: voxel x has the weight 1, and the other neighbours, inside too, have 0.
 use Prim.Native.Nat.{ℕ, zero, suc, _+_, _-_, _/_, _^_, _≤_, _<_, zero-le}
 use native.Mathlib.Nat.{zero-add}
+use native.Mathlib.Decide.{decLt}
 use native.Mathlib.Omega.{arith}
 use mathlib.Core.Path.{_≡_, refl, sym, ap, _∙_, subst}
+use mathlib.Core.Logic.{dite}
 use mathlib.Core.Bool.{Bool, true, false, _&&_, _||_, cond, true≢false}
 use mathlib.Core.List.{List, _∷_}
 use lib.IntN.{pos}
 use lib.Dec.{eqb, lit≤}
-use lib.ListN.{getD, replicate}
+use lib.ListN.{getD, replicate, getD-replicate, List·getD-eq-default}
 use lib.Ieee.{Float, nan, ofInt, sub, le, eq}
 use borrow.Author.Tests.{le-leb, lt-leb, le-ltb}
 use Rattle.exact.specs.Rounded.{_⊕_, _⊖_, num}
@@ -25,14 +27,15 @@ use Rattle.border.proofs.Landing as landing
 use Rattle.axis.specs.declared.coordinate.Axis.{Axis}
 use Rattle.axis.specs.declared.point.Point.{Point}
 use Rattle.axis.specs.Coordinate.{settled}
-use Rattle.axis.specs.Weights.{base, leading, completed, sumFrom, buildSplines}
+use Rattle.axis.specs.Weights.{orderOn, base, leading, completed, sumFrom, buildSplines}
 use Rattle.axis.specs.Neighbours.{firstNeighbour, outside, splineMode, neighbour, neighbourIndex}
 use Rattle.axis.specs.Point.{neighbours, keptPoint, pointAt}
-use Rattle.axis.specs.Folded.{weighs, beyond, weightAt, unfoldedAt, foldedBy, foldedAt, AllInside}
+use Rattle.axis.specs.Folded.{weighs, beyond, weightAt, unfoldedAt, foldedBy, someFolded, foldedAt, AllInside}
 use Rattle.axis.proofs.Folding.{Padded, beyond-at, inside-unfolded}
 use Rattle.axis.proofs.Weights.{whole-linear}
 use Rattle.axis.proofs.Inside.{index-inside}
-use Rattle.axis.proofs.Points.{placeOf, kept-inside, point-kept}
+use Rattle.axis.proofs.Points.{placeOf, kept-inside, long-order, order-most, point-kept}
+use Rattle.axis.proofs.Singles.{Lone, lone-point}
 use Rattle.coverage.specs.Coverage.{keptAt}
 use Rattle.voxels.specs.Sum.{lent}
 use Rattle.voxels.specs.Voxel.{tapOf}
@@ -120,7 +123,7 @@ module _ {to : Float} {x L : ℕ} (is : Is to (pos x)) (lies : x < L) (two : 2 �
       let at = nth mode order L first in
       subst (λ (t : Point). Names order L x t) (kept-inside order mode L to refl counts refl refl) (record {
         first = at 0 (omega arith) (omega arith) ∙ index-is (first-names order l) mode (outside order L first);
-        within = λ k m. subst (λ (j : ℕ). j < L) (sym (at k (omega arith) m)) (index-inside order mode L to k (omega arith) two top (is-within 30 is (omega arith)) (unsigned-asks is (omega arith) .0) m);
+        within = λ k m. subst (λ (j : ℕ). j < L) (sym (at k (omega arith) m)) (index-inside order mode L to k (omega arith) (λ _. two) top (is-within 30 is (omega arith)) (unsigned-asks is (omega arith) .0) m);
         weights = unit (neighbours mode order L first) (weights-are is most order l);
       })
 
@@ -140,7 +143,14 @@ module _ (mode : BorderMode) (a : Axis) (i : ℕ) {x : ℕ} (is : Is (settled mo
 
   pub whole-names : x < a .len → 2 ≤ a .len → a .len ≤ 4120 → (order : ℕ) → order ≤ 1 → Names order (a .len) x (pointAt order mode a i)
   unfolding keptAt
-  whole-names lies two top order low = subst (λ (t : Point). Names order (a .len) x t) (point-kept order mode a i refl whole-kept) (names is lies two top order mode low)
+  whole-names lies two top order low = subst (λ (t : Point). Names order (a .len) x t) (point-kept order mode a i refl (sym (long-order (a .len) order two)) whole-kept) (names is lies two top order mode low)
+
+-- a single slice names its one voxel
+pub lone-names : (mode : BorderMode) {a : Axis} {i : ℕ} → Lone a i → (order : ℕ) → Names order 1 0 (pointAt order mode a i)
+lone-names mode l order = subst (λ (t : Point). Names order 1 0 t) (sym (lone-point mode l order)) (record { first = refl; within = λ k _. nowhere k; weights = unit (replicate 6 0) refl })
+  where
+    nowhere : (k : ℕ) → getD (replicate 6 0) k 0 < 1
+    nowhere k = subst (λ (n : ℕ). n < 1) (sym (dite (decLt k 6) (λ h. getD-replicate 6 k 0 0 h) (λ n. List·getD-eq-default (replicate 6 0) 0 {n = k} (omega arith)))) (lit≤ tt)
 
 -- ---- whether a neighbour was folded there: voxel x alone has a weight
 module _ (mode : BorderMode) (a : Axis) (i : ℕ) {x : ℕ} (pad : a .pad ≡ num 0) (short : a .len ≤ 4120) (is : Is (settled mode a i) (pos x)) where
@@ -160,15 +170,21 @@ module _ (mode : BorderMode) (a : Axis) (i : ℕ) {x : ℕ} (pad : a .pad ≡ nu
   pub whole-unfolded : (order : ℕ) → order ≤ 1 → x < a .len → foldedAt order mode a i ≡ false
   whole-unfolded order low l = inside-unfolded order mode unpadded i inside-at
     where
-      inside-at : AllInside order mode (a .len) 0 a i
-      inside-at zero k w = (x, l, subst (λ (n : ℕ). Is (unfoldedAt order mode a i 0) (pos n)) (sym (zero-add x)) (first-at (omega arith) order low (λ _. omega arith)))
-      inside-at (suc zero) k w = absurd (true≢false (sym w ∙ ap weighs (weight-at (omega arith) order low 1) ∙ zero-weightless))
-      inside-at (suc (suc k)) l w = absurd (omega arith)
+      o : ℕ
+      o = orderOn (a .len) order
+
+      least : o ≤ 1
+      least = order-most (a .len) order low
+
+      inside-at : AllInside o mode (a .len) 0 a i
+      inside-at zero k w = (x, l, subst (λ (n : ℕ). Is (unfoldedAt o mode a i 0) (pos n)) (sym (zero-add x)) (first-at (omega arith) o least (λ _. omega arith)))
+      inside-at (suc zero) k w = absurd (true≢false (sym w ∙ ap weighs (weight-at (omega arith) o least 1) ∙ zero-weightless))
+      inside-at (suc (suc k)) l w = absurd (omega (arith, least))
 
   -- behind it voxel x was
-  pub whole-folded : a .len ≤ x → x ≤ 2 ^ 32 → foldedAt 1 mode a i ≡ true
+  pub whole-folded : 2 ≤ a .len → a .len ≤ x → x ≤ 2 ^ 32 → foldedAt 1 mode a i ≡ true
   unfolding foldedAt
-  whole-folded l most =
+  whole-folded two l most =
       let weight : weighs (weightAt 1 mode a i 0) ≡ true = ap weighs (weight-at most 1 (lit≤ tt) 0) ∙ one-weighs in
       let beyond-it : beyond a (unfoldedAt 1 mode a i 0) ≡ true = beyond-at unpadded (first-at most 1 (lit≤ tt) (λ h. absurd (omega (arith, h)))) ∙ (λ t. le-ltb x 0 zero-le t || le-leb (a .len + 0) x (omega arith) t) in
-      some-at (foldedBy 1 mode a i) 2 0 (lit≤ tt) (λ t. weight t && beyond-it t)
+      ap (λ (o : ℕ). someFolded o mode a i) (long-order (a .len) 1 two) ∙ some-at (foldedBy 1 mode a i) 2 0 (lit≤ tt) (λ t. weight t && beyond-it t)

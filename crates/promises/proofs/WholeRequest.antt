@@ -31,9 +31,10 @@ use Rattle.refusal.specs.Refusals.{shiftChecks}
 use Rattle.request.proofs.Requests.{not-both, good-lengths}
 use Rattle.resample.specs.Call.{numberIn, sourceOf, coefficients, shiftCall}
 use Rattle.promises.specs.Entries.{shifting}
-use Rattle.promises.specs.Given.{holds}
+use Rattle.promises.specs.Given.{NoneBut}
 use Rattle.promises.specs.Moves.{F64s, Whole, Outside}
 use Rattle.promises.proofs.Nine.{nine-clear}
+use Rattle.promises.proofs.Slices.{slice-still}
 use Rattle.promises.proofs.Succeeding.{Succeeds, succeeds}
 use Rattle.promises.proofs.WholePoint.{Names}
 use Rattle.promises.proofs.WholeShift.{Shifts, dropped, stays, point-unfolded, point-names, never-beside}
@@ -45,13 +46,13 @@ pub record Asked (r : Request) (input output : List Float) (coverage : List ℕ)
   pub low : r .order ≤ 1
   pub whole : Whole r s
   pub f64 : F64s input
-  pub clear : (n : ℕ) → n ≤ 8 → holds (shiftChecks Volume r input (length output) (length coverage) (length work)) n ≡ false
+  pub clear : NoneBut (shiftChecks Volume r input (length output) (length coverage) (length work)) 9
 
 abbrev pub dim : Request → ℕ → ℕ
 dim r c = getD (r .dims) c 0
 
 abbrev pub axis : Request → ℕ → Axis
-axis r c = shiftAxis (dim r c) (getD (r .factors) c nan) (padding r)
+axis r c = shiftAxis (dim r c) (getD (r .factors) c nan) (padding r c)
 
 abbrev pub point : Request → ℕ → ℕ → Point
 point r c i = pointAt (r .order) (r .mode) (axis r c) i
@@ -79,49 +80,49 @@ and-false true = refl
 and-false false = refl
 
 module _ {r : Request} {input output : List Float} {coverage : List ℕ} {work : List Float} {fill : Float} {s : ℕ → ℤ} (a : Asked r input output coverage work fill s) where
-  no-pad : padding r ≡ 0
-  no-pad = low-pad (r .mode) (r .prefilter) (r .order) (a .low)
+  no-pad : (c : ℕ) → padding r c ≡ 0
+  no-pad c = low-pad (r .mode) (r .prefilter) (r .order) (dim r c) (a .low)
 
   pub plain : coefficients r input ≡ input
   plain = plain-input r input (a .low)
 
   pub length-is : (c : ℕ) → axis r c .len ≡ dim r c
-  length-is c = omega (arith, no-pad)
+  length-is c = omega (arith, no-pad c)
 
   -- what the refusals let pass
   pub lengths : Lengths (r .dims)
-  lengths = good-lengths (r .dims) (a .clear 3 (lit≤ tt))
+  lengths = good-lengths (r .dims) (a .clear 3 (λ e. omega (arith, e)))
 
   pub tame : Finite input
-  tame = not-wild input (or-false (wildFill (r .mode)) (someWild input) (a .clear 8 (lit≤ tt)) .1)
+  tame = not-wild input (or-false (wildFill (r .mode)) (someWild input) (a .clear 8 (λ e. omega (arith, e))) .1)
 
   -- ---- one axis
   -- what holds in Constant without a pad
-  given : (P : BorderMode → ℕ → Type 0) → P (Constant fill) 0 → P (r .mode) (padding r)
-  given P h = subst (λ (m : BorderMode). P m (padding r)) (sym (a .constant)) (subst (P (Constant fill)) (sym no-pad) h)
+  given : (c : ℕ) (P : BorderMode → ℕ → Type 0) → P (Constant fill) 0 → P (r .mode) (padding r c)
+  given c P h = subst (λ (m : BorderMode). P m (padding r c)) (sym (a .constant)) (subst (P (Constant fill)) (sym (no-pad c)) h)
 
   module _ (c : ℕ) (l : c < 3) (i : ℕ) (h : i < dim r c) where
     abbrev padded : ℕ → Axis
     padded p = shiftAxis (dim r c) (getD (r .factors) c nan) p
 
     shifts : Shifts (dim r c) (getD (r .factors) c nan) (s c)
-    shifts = record { least = lengths c l .0; most = lengths c l .1; is = a .whole c l .0; small = a .whole c l .1 }
+    shifts = record { least = lengths c l .0; still = slice-still r (a .clear 12 (λ e. omega (arith, e))) c l (a .whole c l .0); most = lengths c l .1; is = a .whole c l .0; small = a .whole c l .1 }
 
     pub drops : Outside (dim r c) (pos i -ℤ s c) → keptAt (r .mode) (axis r c) i ≡ false
-    drops o = given (λ m p. keptAt m (padded p) i ≡ false) (dropped fill shifts i h o)
+    drops o = given c (λ m p. keptAt m (padded p) i ≡ false) (dropped fill shifts i h o)
 
     beside : besideAt (r .mode) (axis r c) i ≡ false
-    beside = given (λ m p. besideAt m (padded p) i ≡ false) (never-beside fill shifts i h)
+    beside = given c (λ m p. besideAt m (padded p) i ≡ false) (never-beside fill shifts i h)
 
     module _ (x : ℕ) (k : x < dim r c) (e : pos i -ℤ s c ≡ pos x) where
       pub keeps : keptAt (r .mode) (axis r c) i ≡ true
-      keeps = given (λ m p. keptAt m (padded p) i ≡ true) (stays fill shifts i h x k e)
+      keeps = given c (λ m p. keptAt m (padded p) i ≡ true) (stays fill shifts i h x k e)
 
       pub unfolded : foldedAt (r .order) (r .mode) (axis r c) i ≡ false
-      unfolded = given (λ m p. foldedAt (r .order) m (padded p) i ≡ false) (point-unfolded fill shifts i h x k e (r .order) (a .low))
+      unfolded = given c (λ m p. foldedAt (r .order) m (padded p) i ≡ false) (point-unfolded fill shifts i h x k e (r .order) (a .low))
 
       pub named : Names (r .order) (dim r c) x (point r c i)
-      named = given (λ m p. Names (r .order) (dim r c) x (pointAt (r .order) m (padded p) i)) (point-names fill shifts i h x k e (r .order) (a .low))
+      named = given c (λ m p. Names (r .order) (dim r c) x (pointAt (r .order) m (padded p) i)) (point-names fill shifts i h x k e (r .order) (a .low))
 
   -- ---- refusal 9 does not meet the call either
   none-beside : (c : ℕ) → c < 3 → someBeside (r .mode) (axis r c) ≡ false

@@ -4,18 +4,20 @@ use native.Mathlib.Nat.{le-refl}
 use native.Mathlib.Decide.{decLt}
 use native.Mathlib.Omega.{arith}
 use mathlib.Core.Path.{_≡_, refl, sym, ap, _∙_, subst}
-use mathlib.Core.Logic.{_⊎_, inl, inr, dite}
+use mathlib.Core.Logic.{_⊎_, inl, inr, ⊎-elim, dite}
 use mathlib.Core.Bool.{Bool, true, false, _&&_, _||_, cond}
 use lib.IntN.{ℤ, pos, negsuc, natAbs, _-ℤ_, +ℤ-idr}
 use lib.Dec.{T, ltb, le→leb, lit≤}
 use lib.Ieee.{Float, binary64, neg, lt, le, ofInt}
 use lib.Ieee.Fits.{add-fits}
 use borrow.Author.Tests.{lt-leb}
+use Rattle.limits.specs.Limits.{single}
+use Rattle.limits.proofs.Singles.{single-one, two-long, long-two}
 use Rattle.exact.specs.Rounded.{_⊕_, num}
 use Rattle.exact.specs.Whole.{Is}
 use Rattle.exact.proofs.Value.{is-true}
 use Rattle.exact.proofs.Tests.{or-l, or-r}
-use Rattle.exact.proofs.Is.{add-is, neg-is, lt-is, le-is}
+use Rattle.exact.proofs.Is.{add-is, neg-is, lt-is, le-is, is-eq}
 use Rattle.exact.proofs.Naturals.{num-is, not-below}
 use Rattle.exact.proofs.Weights.{mul-one-r}
 use Rattle.border.specs.declared.BorderMode.the-variants.{Constant}
@@ -26,9 +28,11 @@ use Rattle.axis.specs.Coordinate.{shiftAxis, unpadded, coordinate, settled, kep
 use Rattle.axis.specs.Neighbours.{outside, firstNeighbour}
 use Rattle.axis.specs.Point.{pointAt, besideAt}
 use Rattle.axis.specs.Folded.{foldedAt}
+use Rattle.axis.proofs.Coordinates.{single-settled, long-settled}
+use Rattle.axis.proofs.Singles.{Lone, lone-beside, shift-lone}
 use Rattle.coverage.specs.Coverage.{keptAt}
 use Rattle.promises.specs.Moves.{Outside}
-use Rattle.promises.proofs.WholePoint.{Names, not-beside, whole-kept, whole-names, whole-unfolded}
+use Rattle.promises.proofs.WholePoint.{Names, not-beside, whole-kept, whole-names, lone-names, whole-unfolded}
 
 -- ---- the size of a difference
 size : (i : ℕ) (z : ℤ) → natAbs (pos i -ℤ z) ≤ i + natAbs z
@@ -45,9 +49,10 @@ pub where-lies : (n : ℕ) (z : ℤ) → ((x : ℕ) × (x < n) × (z ≡ pos x))
 where-lies n (negsuc k) = inr (inl tt)
 where-lies n (pos x) = dite (decLt x n) (λ l. inl (x, l, refl)) (λ b. inr (inr (le→leb n x (omega arith))))
 
--- an axis n long, and its shift
+-- an axis n long, and its shift; a single slice is not shifted
 pub record Shifts (n : ℕ) (shift : Float) (s : ℤ) : Type 0 where
-  pub least : 2 ≤ n
+  pub least : 1 ≤ n
+  pub still : n ≡ 1 → s ≡ pos 0
   pub most : n ≤ 4096
   pub is : Is shift s
   pub small : natAbs s < 2 ^ 20
@@ -76,17 +81,39 @@ module _ {n : ℕ} {shift : Float} {s : ℤ} (g : Shifts n shift s) (i : ℕ) (l
   pub length-is : Is (num (shiftAxis n shift 0 .len)) (pos n)
   length-is = subst (λ (k : ℕ). Is (num (shiftAxis n shift 0 .len)) (pos k)) whole-length (num-is (shiftAxis n shift 0 .len) (omega arith))
 
+  -- it is longer, or a single slice
+  pub longer-or-slice : (2 ≤ n) ⊎ ((n ≡ 1) × Lone (shiftAxis n shift 0) i)
+  longer-or-slice = go (single n) refl
+    where
+      go : (t : Bool) → single n ≡ t → (2 ≤ n) ⊎ ((n ≡ 1) × Lone (shiftAxis n shift 0) i)
+      go true t =
+          let one = single-one n t in
+          let z : i ≡ 0 = omega arith in
+          inr (one, subst (λ (i : ℕ). Lone (shiftAxis n shift 0) i) (sym z) (shift-lone shift 0 one refl (is-true _ (is-eq (g .is) (num-is 0 (lit≤ tt)) (g .still one)))))
+      go false t = inl (long-two n t (g .least))
+
+  -- whose index does not leave it
+  pub slice-stays : n ≡ 1 → pos i -ℤ s ≡ pos 0
+  slice-stays one = let z : i ≡ 0 = omega arith in (λ t. pos (z t) -ℤ g .still one t)
+
 -- ---- in Constant
 module _ (fill : Float) {n : ℕ} {shift : Float} {s : ℤ} (g : Shifts n shift s) (i : ℕ) (l : i < n) where
   abbrev a : Axis
   a = shiftAxis n shift 0
 
+  slice-inside : n ≡ 1 → Outside n (pos i -ℤ s) → ⊥
+  slice-inside one out = elim (subst (λ (n : ℕ). Outside n (pos 0)) one (subst (λ (z : ℤ). Outside n z) (slice-stays g i l one) out)) [ inl b ↦ b | inr b ↦ b ]
+
+  settles-long : 2 ≤ n → settled (Constant fill) a i ≡ fold (Constant fill) (coordinate a i) (num (a .len))
+  settles-long two = long-settled (Constant fill) a i (two-long (a .len) (omega arith))
+
   -- ---- where the index lies outside
   module _ (out : Outside n (pos i -ℤ s)) where
     settles-out : settled (Constant fill) a i ≡ neg (num 1)
-    unfolding settled fold foldConstant
+    unfolding fold foldConstant
     settles-out =
-        ap (λ (b : Bool). cond b (neg (num 1)) (coordinate a i)) (is-true (lt (coordinate a i) (num 0) || le (num (a .len)) (coordinate a i)) (elim out [
+        ⊎-elim settles-long (λ h. absurd (slice-inside (h .0) out)) (longer-or-slice g i l)
+        ∙ ap (λ (b : Bool). cond b (neg (num 1)) (coordinate a i)) (is-true (lt (coordinate a i) (num 0) || le (num (a .len)) (coordinate a i)) (elim out [
           | inl b ↦ or-l (lt (coordinate a i) (num 0)) (le (num (a .len)) (coordinate a i)) (subst T (sym (lt-is (coordinate-is g i l) (num-is 0 (lit≤ tt)))) b)
           | inr b ↦ or-r (lt (coordinate a i) (num 0)) (le (num (a .len)) (coordinate a i)) (subst T (sym (le-is (length-is g i l) (coordinate-is g i l))) b)
         ]))
@@ -100,9 +127,13 @@ module _ (fill : Float) {n : ℕ} {shift : Float} {s : ℤ} (g : Shifts n shift 
     reads : Is (coordinate a i) (pos x)
     reads = subst (λ (z : ℤ). Is (coordinate a i) z) e (coordinate-is g i l)
 
+    stands : coordinate a i ≡ settled (Constant fill) a i
+    stands =
+        ⊎-elim (λ two. inside (Constant fill) (coordinate a i) (num (a .len)) (not-below reads) (le-is (length-is g i l) reads ∙ lt-leb n x lies) ∙ sym (settles-long two))
+        (λ h. sym (single-settled (Constant fill) a i (ap (λ (k : ℕ). single k) (h .1 .one)))) (longer-or-slice g i l)
+
     settles : Is (settled (Constant fill) a i) (pos x)
-    unfolding settled
-    settles = subst (λ (y : Float). Is y (pos x)) (inside (Constant fill) (coordinate a i) (num (a .len)) (not-below reads) (le-is (length-is g i l) reads ∙ lt-leb n x lies)) reads
+    settles = subst (λ (y : Float). Is y (pos x)) stands reads
 
     pub stays : keptAt (Constant fill) a i ≡ true
     stays = whole-kept (Constant fill) a i settles
@@ -111,11 +142,18 @@ module _ (fill : Float) {n : ℕ} {shift : Float} {s : ℤ} (g : Shifts n shift 
     point-unfolded order o = whole-unfolded (Constant fill) a i refl (omega arith) settles order o (omega arith)
 
     pub point-names : (order : ℕ) → order ≤ 1 → Names order n x (pointAt order (Constant fill) a i)
-    point-names order o = subst (λ (L : ℕ). Names order L x (pointAt order (Constant fill) a i)) (whole-length g i l) (whole-names (Constant fill) a i settles (omega arith) (omega arith) (omega arith) order o)
+    point-names order o =
+        ⊎-elim (λ two. subst (λ (L : ℕ). Names order L x (pointAt order (Constant fill) a i)) (whole-length g i l) (whole-names (Constant fill) a i settles (omega arith) (omega arith) (omega arith) order o))
+        (λ h.
+        let one = h .0 in
+        let z : x ≡ 0 = omega arith in
+        subst (λ (L : ℕ). Names order L x (pointAt order (Constant fill) a i)) (sym one) (subst (λ (y : ℕ). Names order 1 y (pointAt order (Constant fill) a i)) (sym z) (lone-names (Constant fill) (h .1) order))) (longer-or-slice g i l)
 
     inside-not-beside : besideAt (Constant fill) a i ≡ false
     unfolding besideAt keptAt
-    inside-not-beside = ap (λ (b : Bool). kept (settled (Constant fill) a i) && b) (not-beside {L = a .len} settles (omega arith) (omega arith) (omega arith)) ∙ ap (λ (b : Bool). b && false) stays
+    inside-not-beside =
+        ⊎-elim (λ two. ap (λ (b : Bool). kept (settled (Constant fill) a i) && b) (not-beside {L = a .len} settles (omega arith) (omega arith) (omega arith)) ∙ ap (λ (b : Bool). b && false) stays)
+        (λ h. lone-beside (Constant fill) (h .1)) (longer-or-slice g i l)
 
   pub never-beside : besideAt (Constant fill) a i ≡ false
   unfolding besideAt keptAt

@@ -2,19 +2,21 @@
 use Prim.Native.Nat.{ℕ, _-_, _+_, _≤_}
 use native.Mathlib.Omega.{arith}
 use mathlib.Core.Path.{_≡_, refl, sym, ap, _∙_, subst}
-use mathlib.Core.Logic.{dite}
-use mathlib.Core.Bool.{Bool, true, false, true≢false}
+use mathlib.Core.Bool.{Bool, true, false, cond, true≢false}
 use mathlib.Core.List.{List, _++_}
-use native.Mathlib.Decide.{ℕ-discrete}
 use lib.ListN.{length, getD, drop, length-append, length-drop}
 use lib.Seq.{getD-append-add, getD-drop, take-at}
 use lib.Ieee.{Float, nan}
+use Rattle.limits.specs.Limits.{single}
 use Rattle.lists.proofs.Tabulated.{length-tabulate}
 use Rattle.border.specs.declared.BorderMode.{BorderMode}
 use Rattle.edge.specs.Edge.{padded, paddedDims}
-use Rattle.prefilter.specs.Volume.{filterVolume, countOf}
+use Rattle.poles.specs.Poles.{polesOf, gainOf}
+use Rattle.lane.specs.Lane.{reflects, filterLane}
+use Rattle.lanes.specs.Along.{filterAlong}
+use Rattle.prefilter.specs.Volume.{lengthOf, strideOf, filterAxis, filterVolume, countOf}
 use Rattle.request.specs.declared.Request.{Request}
-use Rattle.request.specs.Sizes.{filters, padding, sourceDims, needed}
+use Rattle.request.specs.Sizes.{filters, edges, sourceDims, needed}
 use Rattle.resample.specs.Call.{Call, sourceOf, coefficients, workAfter, numberIn}
 use Rattle.request.proofs.Requests.{plain-count, needed-all}
 use Rattle.resample.proofs.Preparing.{source-plain, padded-count, source-padded, filtered, work-begins, work-stays}
@@ -24,8 +26,15 @@ use Rattle.promises.proofs.Succeeding.{succeeds}
 
 -- ---- how many coefficients there are
 length-volume : (mode : BorderMode) (order : ℕ) (d : List ℕ) (xs : List Float) → length (filterVolume mode order d xs) ≡ length xs
-unfolding filterVolume
-length-volume mode order d xs = simp length-tabulate
+unfolding filterVolume filterAxis
+length-volume mode order d xs = along 2 _ ∙ along 1 _ ∙ along 0 xs
+  where
+    along : (axis : ℕ) (xs : List Float) → length (filterAxis mode order d axis xs) ≡ length xs
+    along axis xs = go (single (lengthOf axis d))
+      where
+        go : (t : Bool) → length (cond t xs (filterAlong (filterLane (reflects mode) (polesOf order) (gainOf (polesOf order))) (lengthOf axis d) (strideOf axis d) xs)) ≡ length xs
+        go true = refl
+        go false = length-tabulate (length xs) _
 
 length-padded : (d : List ℕ) (xs : List Float) → length (padded d xs) ≡ countOf (paddedDims d)
 unfolding padded
@@ -33,10 +42,11 @@ length-padded d xs = length-tabulate (countOf (paddedDims d)) _
 
 module _ (r : Request) (input : List Float) (all : length input ≡ countOf (r .dims)) where
   length-source : length (sourceOf r input) ≡ countOf (sourceDims r)
-  length-source =
-      dite (ℕ-discrete (padding r) 0)
-      (λ e. ap length (sym (source-plain r input e)) ∙ all ∙ sym (plain-count r e))
-      (λ n. ap length (sym (source-padded r input n)) ∙ length-padded (r .dims) input ∙ sym (padded-count r n))
+  length-source = go (edges r) refl
+    where
+      go : (t : Bool) → edges r ≡ t → length (sourceOf r input) ≡ countOf (sourceDims r)
+      go true e = ap length (sym (source-padded r input e)) ∙ length-padded (r .dims) input ∙ sym (padded-count r e)
+      go false e = ap length (sym (source-plain r input e)) ∙ all ∙ sym (plain-count r e)
 
   pub coefficients-long : filters r ≡ true → length (coefficients r input) ≡ needed r
   coefficients-long f = ap length (sym (filtered r input f refl refl)) ∙ length-volume (r .mode) (r .order) (sourceDims r) (sourceOf r input) ∙ length-source ∙ sym (needed-all r f)

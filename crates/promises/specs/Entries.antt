@@ -2,11 +2,15 @@
 use Prim.Native.Nat.{ℕ}
 use mathlib.Core.Bool.{Bool}
 use mathlib.Core.List.{List, [], _∷_}
-use lib.Ieee.{Float}
+use lib.ListN.{getD}
+use lib.Ieee.{Float, nan}
 use Rattle.border.specs.declared.BorderMode.{BorderMode}
+use Rattle.axis.specs.declared.coordinate.Axis.{Axis}
+use Rattle.axis.specs.Coordinate.{shiftAxis, zoomAxis}
+use Rattle.axis.specs.Length.{outputLength}
 use Rattle.request.specs.declared.Axes.{Axes}
 use Rattle.request.specs.declared.Request.{Request}
-use Rattle.request.specs.Sizes.{shiftAxes, zoomAxes}
+use Rattle.request.specs.Sizes.{padding, shiftAxes, zoomAxes}
 use Rattle.refusal.specs.declared.Asked.the-variants.{Volume}
 use Rattle.refusal.specs.Refusals.{Check, shiftChecks, zoomChecks, shiftVoxelChecks, zoomVoxelChecks, shiftPointChecks, zoomPointChecks, splineFilterChecks, splineFilter1dChecks}
 use Rattle.resample.specs.Call.{Call, shiftCall, zoomCall, FilterCall, splineFilterCall, splineFilter1dCall}
@@ -30,6 +34,11 @@ checks zooming = zoomChecks Volume
 abbrev pub axesOf : Entry → Request → Axes
 axesOf shifting = shiftAxes
 axesOf zooming = zoomAxes
+
+-- axis c of the three
+abbrev pub axisAt : Entry → Request → ℕ → Axis
+axisAt shifting r c = shiftAxis (getD (r .dims) c 0) (getD (r .factors) c nan) (padding r c)
+axisAt zooming r c = zoomAxis (getD (r .dims) c 0) (outputLength (getD (r .dims) c 0) (getD (r .factors) c nan)) (padding r c)
 
 -- the output lengths
 abbrev pub outputDims : Entry → Request → List ℕ

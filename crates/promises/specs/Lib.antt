@@ -10,6 +10,7 @@ pub mod Marks
 pub mod Moves
 pub mod Folds
 pub mod Replicates
+pub mod Slices
 pub mod Stays
 pub mod Filings
 pub mod Files

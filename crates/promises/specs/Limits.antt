@@ -1,4 +1,4 @@
--- "Both sides: order 5 taken, 6 refused; axis 2 and 4,096 taken, 1 and 4,097 refused; shift 1,048,575.5 taken, 1,048,576 refused; size 2^100 taken." And both sides of every other limit, as one table.
+-- "Both sides: order 5 taken, 6 refused; axis 2 and 4,096 taken, 1 and 4,097 refused; shift 1,048,575.5 taken, 1,048,576 refused; size 2^100 taken." #106: "3 is now length 0 or above 4,096"; "12, a length-1 axis with another shift or a zoom to other than 1". And both sides of every other limit, as one table.
 use Prim.Native.Nat.{_+_, _^_}
 use mathlib.Core.Bool.{Bool, true, false, not}
 use mathlib.Core.List.{List, [], _∷_}
@@ -8,7 +8,7 @@ use Rattle.border.specs.declared.BorderMode.the-variants.{Constant, Mirror, Nea
 use Rattle.axis.specs.Coordinate.{shiftAxis}
 use Rattle.axis.specs.Length.{outputLength}
 use Rattle.axis.specs.Point.{someBeside}
-use Rattle.request.specs.Conditions.{badOrder, badFilterOrder, badAxisNumber, badLength, badShift, badZoom, tooLarge, wrong, tooShort, wild, wildFill, badIndex}
+use Rattle.request.specs.Conditions.{badOrder, badFilterOrder, badAxisNumber, badLength, badShift, badZoom, tooLarge, wrong, tooShort, wild, wildFill, badIndex, movesSlice, zoomsSlice, badOutput}
 
 -- what a test says, and whether it is to refuse
 pub data Side : Type 0 where
@@ -25,6 +25,13 @@ least = ofBits binary64 1
 abbrev past4096 : Float
 past4096 = num (2 ^ 52 + 1) ⊘ num (2 ^ 40)
 
+-- the next above 0.5, and the next below 1.5
+abbrev pastHalf : Float
+pastHalf = ofBits binary64 0x3fe0_0000_0000_0001
+
+abbrev beforeOneAndHalf : Float
+beforeOneAndHalf = ofBits binary64 0x3ff7_ffff_ffff_ffff
+
 abbrev past100 : Float
 past100 = num (2 ^ 100 + 2 ^ 48)
 
@@ -37,14 +44,19 @@ sides =
     -- 2
     ∷ taken (badAxisNumber 2) ∷ refused (badAxisNumber 3)
     -- 3
-    ∷ refused (badLength 1) ∷ taken (badLength 2) ∷ taken (badLength 4096) ∷ refused (badLength 4097)
+    ∷ refused (badLength 0) ∷ taken (badLength 1) ∷ taken (badLength 2) ∷ taken (badLength 4096) ∷ refused (badLength 4097)
     -- 4, of shift and of zoom
     ∷ taken (badShift (num 1048575 ⊕ half)) ∷ refused (badShift (num 1048576)) ∷ taken (badShift (neg (num 1048575 ⊕ half))) ∷ refused (badShift (neg (num 1048576)))
     ∷ refused (badShift nan) ∷ refused (badShift (inf false)) ∷ refused (badShift (inf true))
     ∷ refused (badZoom (num 0)) ∷ refused (badZoom (neg (num 0))) ∷ taken (badZoom least) ∷ refused (badZoom (neg least)) ∷ taken (badZoom (num 4096)) ∷ refused (badZoom past4096)
     ∷ refused (badZoom nan) ∷ refused (badZoom (inf false)) ∷ refused (badZoom (inf true))
-    -- 5
-    ∷ refused (badLength (outputLength 2 half)) ∷ taken (badLength (outputLength 3 half)) ∷ taken (badLength (outputLength 2048 (num 2))) ∷ refused (badLength (outputLength 2048 (num 4097 ⊘ num 2048)))
+    -- 12, of shift and of zoom: either zero, and the numbers next to 0.5 and 1.5
+    ∷ taken (movesSlice 1 (num 0)) ∷ taken (movesSlice 1 (neg (num 0))) ∷ refused (movesSlice 1 least) ∷ refused (movesSlice 1 (neg least)) ∷ taken (movesSlice 2 least)
+    ∷ refused (zoomsSlice 1 (outputLength 1 half)) ∷ taken (zoomsSlice 1 (outputLength 1 pastHalf)) ∷ taken (zoomsSlice 1 (outputLength 1 (num 1)))
+    ∷ taken (zoomsSlice 1 (outputLength 1 beforeOneAndHalf)) ∷ refused (zoomsSlice 1 (outputLength 1 (num 1 ⊕ half))) ∷ taken (zoomsSlice 2 (outputLength 2 half))
+    -- 5, which does not speak of an axis of length 1
+    ∷ refused (badOutput 2 (outputLength 2 half)) ∷ taken (badOutput 3 (outputLength 3 half)) ∷ taken (badOutput 2048 (outputLength 2048 (num 2))) ∷ refused (badOutput 2048 (outputLength 2048 (num 4097 ⊘ num 2048)))
+    ∷ taken (badOutput 1 (outputLength 1 half)) ∷ taken (badOutput 1 (outputLength 1 (num 1)))
     -- 6
     ∷ taken (tooLarge (2 ^ 27)) ∷ refused (tooLarge (2 ^ 27 + 1))
     -- 7

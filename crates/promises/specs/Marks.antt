@@ -10,23 +10,31 @@ use lib.Ieee.{Float}
 use Rattle.exact.specs.Rounded.{num}
 use Rattle.border.specs.declared.BorderMode.the-variants.{Constant}
 use Rattle.axis.specs.declared.coordinate.Axis.{Axis}
+use Rattle.axis.specs.Coordinate.{padOf}
+use Rattle.axis.specs.Weights.{orderOn}
 use Rattle.axis.specs.Folded.{AllInside, SomeOutside}
 use Rattle.coverage.specs.Coverage.{keptAt}
 use Rattle.request.specs.declared.Axes.{Axes}
 use Rattle.request.specs.declared.Request.{Request}
-use Rattle.request.specs.Sizes.{padding}
 
 -- ---- an axis that was `length` voxels long before its pad, at output index i
 abbrev pub Keeps : Request → ℕ → Axis → ℕ → Type 0
 Keeps r length a i = keptAt (r .mode) a i ≡ true
 
+-- its pad, and the order that it is read at
+abbrev pub padOn : Request → ℕ → ℕ
+padOn r length = padOf (r .mode) (r .prefilter) (r .order) length
+
+abbrev readAt : Request → Axis → ℕ
+readAt r a = orderOn (a .len) (r .order)
+
 -- every neighbour with a nonzero weight lies inside the unpadded axis
 abbrev pub FromInside : Request → ℕ → Axis → ℕ → Type 0
-FromInside r length a i = AllInside (r .order) (r .mode) length (padding r) a i
+FromInside r length a i = AllInside (readAt r a) (r .mode) length (padOn r length) a i
 
 -- some neighbour with a nonzero weight lies outside
 abbrev pub FromOutside : Request → ℕ → Axis → ℕ → Type 0
-FromOutside r length a i = SomeOutside (r .order) (r .mode) length (padding r) a i
+FromOutside r length a i = SomeOutside (readAt r a) (r .mode) length (padOn r length) a i
 
 -- so on each axis, at the voxel i, j, k; and so on some axis
 abbrev pub Each : (Request → ℕ → Axis → ℕ → Type 0) → Request → Axes → ℕ → ℕ → ℕ → Type 0
