@@ -1,7 +1,7 @@
 // Replays the calls of the file `answers` and compares everything that the Rust answered, bit for bit.
 // Each line has an entry, how many calls are for it, how many of these ended in success and in each
-// refusal, how many numbers were compared, and how many differ. Two more lines have the voxels of the
-// shifts and zooms, each asked for alone.
+// of the refusals 1 to 9 and 12, how many numbers were compared, and how many differ. Two more lines have
+// the voxels of the shifts and zooms, each asked for alone.
 mod alone;
 mod compare;
 
@@ -32,15 +32,23 @@ use recorded::lengths::is_call;
 use resample::Answer;
 use resample::number_in;
 
-// One answer more with this number, 0 to 9.
-fn tally(ends: &mut [u64; 10], answer: Answer) {
-    let n = number_in(answer) as usize;
-    if n < 10 {
+// The place of an answer in the tally: 0 to 9, and behind them 12.
+fn place_of(number: u32) -> usize {
+    match number {
+        12 => 10,
+        _ => number as usize,
+    }
+}
+
+// One answer more with this number.
+fn tally(ends: &mut [u64; 11], answer: Answer) {
+    let n = place_of(number_in(answer));
+    if n < 11 {
         ends[n] = std::num::wrapping_add_u64(ends[n], 1);
     }
 }
 
-fn replay_call(words: &[u64], r: Replay, ends: &mut [u64; 10]) -> Replay {
+fn replay_call(words: &[u64], r: Replay, ends: &mut [u64; 11]) -> Replay {
     let at = r.at;
     if is_call(words, at) {
         let mut output = [BLANK; OUTPUT_ROOM];
@@ -57,7 +65,7 @@ fn replay_call(words: &[u64], r: Replay, ends: &mut [u64; 10]) -> Replay {
 }
 
 // The next call, replayed if it is for the entry.
-fn replay_next(words: &[u64], r: Replay, entry: usize, ends: &mut [u64; 10]) -> Replay {
+fn replay_next(words: &[u64], r: Replay, entry: usize, ends: &mut [u64; 11]) -> Replay {
     let at = r.at;
     let mut now = r;
     if is_for(words, at, entry) {
@@ -66,7 +74,7 @@ fn replay_next(words: &[u64], r: Replay, entry: usize, ends: &mut [u64; 10]) -> 
     moved_to(now, after_call(words, at))
 }
 
-fn replay_entry(words: &[u64], entry: usize, ends: &mut [u64; 10]) -> Replay {
+fn replay_entry(words: &[u64], entry: usize, ends: &mut [u64; 11]) -> Replay {
     let calls = number_of_calls(words);
     let mut r = start(words);
     let mut i = 0;
@@ -82,9 +90,9 @@ fn say_count(n: u64) {
     say_whole(n);
 }
 
-fn say_ends(ends: &[u64; 10]) {
+fn say_ends(ends: &[u64; 11]) {
     let mut n = 0;
-    while n < 10 {
+    while n < 11 {
         say_count(ends[n]);
         n += 1;
     }
@@ -92,10 +100,10 @@ fn say_ends(ends: &[u64; 10]) {
 
 // Writes one line, and answers where the calls end.
 fn replay_line(words: &[u64], entry: usize, name: &[u8]) -> usize {
-    let mut ends = [0u64; 10];
+    let mut ends = [0u64; 11];
     let r = replay_entry(words, entry, &mut ends);
     say_calls(words, entry, name);
-    say(b"answers 0 to 9:");
+    say(b"answers 0 to 9, 12:");
     say_ends(&ends);
     say(b", compared ");
     say_compared(r, b" differ ");

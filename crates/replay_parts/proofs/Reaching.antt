@@ -14,4 +14,4 @@ module _ {a : Axis} (length pad : ℕ) (h : (2 ≤ length) × ((length ≤ 4096)
   shift-reachable shift w e = subst Reachable (sym e) (record { least = omega arith; most = omega arith; bound = λ i l. shift-reaches length shift pad i w l; pad = pad-within (h .1 .1) })
 
   pub zoom-reachable : (output : ℕ) → 2 ≤ output → output ≤ 4096 → a ≡ zoomAxis length output pad → Reachable a
-  zoom-reachable output l m e = subst Reachable (sym e) (record { least = omega arith; most = omega arith; bound = λ i k. zoom-reaches length output pad i (h .1 .0) l m k; pad = pad-within (h .1 .1) })
+  zoom-reachable output l m e = subst Reachable (sym e) (record { least = omega arith; most = omega arith; bound = λ i k. zoom-reaches length output pad i (h .1 .0) (λ _. l) m k; pad = pad-within (h .1 .1) })

@@ -27,10 +27,10 @@ volume-fits a b c p q r =
 pub sized : (a b c n : ℕ) (xs : List Float) → Counted a b c n → n ≤ length xs → Sized (a ∷ b ∷ c ∷ []) (length (take n xs))
 sized a b c n xs h l = record { least = least; most = most; all = length-take-le n xs l ∙ h .all }
   where
-    least : (axis : ℕ) → axis < 3 → 2 ≤ lengthOf axis (a ∷ b ∷ c ∷ [])
-    least zero k = h .least .0
-    least (suc zero) k = h .least .1 .0
-    least (suc (suc zero)) k = h .least .1 .1
+    least : (axis : ℕ) → axis < 3 → 1 ≤ lengthOf axis (a ∷ b ∷ c ∷ [])
+    least zero k = omega (arith, h .least)
+    least (suc zero) k = omega (arith, h .least)
+    least (suc (suc zero)) k = omega (arith, h .least)
     least (suc (suc (suc axis))) k = omega arith
 
     most : (axis : ℕ) → axis < 3 → lengthOf axis (a ∷ b ∷ c ∷ []) ≤ 4120

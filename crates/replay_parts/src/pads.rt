@@ -1,6 +1,7 @@
 // Padded volumes.
 ghost use mathlib.Core.Path.{_≡_};
-ghost use Prim.Native.Nat.{_+_, _*_, _≤_};
+ghost use Prim.Native.Nat.{_*_, _≤_};
+ghost use Rattle.limits.specs.Limits.{wideOf};
 use crate::filters::count_of;
 use answer_file::replay::Replay;
 use answer_file::replay::refused;
@@ -10,13 +11,14 @@ use answer_file::volumes::put_lane;
 use answer_file::words::whole_at;
 use answer_file::words::word_at;
 use edge::pad;
+use limits::wide_of;
 
 // How many voxels the padded volume has.
 fn padded_count(a: usize, b: usize, c: usize) -> usize
     requires { ⌜ (a ≤ 256) × ((b ≤ 256) × (c ≤ 256)) ⌝ }
-    ensures { λ r. ⌜ r ≡ (a + 24) * ((b + 24) * (c + 24)) ⌝ }
+    ensures { λ r. ⌜ r ≡ wideOf a * (wideOf b * wideOf c) ⌝ }
 {
-    (a + 24) * ((b + 24) * (c + 24))
+    wide_of(a) * (wide_of(b) * wide_of(c))
 }
 
 // Pads, if both buffers are long enough.

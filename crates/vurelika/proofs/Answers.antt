@@ -1,6 +1,6 @@
 -- What the door can answer, and what it then leaves: theorems about its definitions, for shift and zoom alike, for the two filters, for one voxel, for the record of one axis.
 use Prim.Native.Nat.{ℕ, _≤_}
-use mathlib.Core.Path.{_≡_, refl, sym, ap, _∙_, subst}
+use mathlib.Core.Path.{_≡_, refl, sym, ap, _∙_}
 use mathlib.Core.Bool.{Bool, true, false, not, _||_, cond}
 use mathlib.Core.List.{List, []}
 use mathlib.Core.Logic.{_⊎_, inl, inr}
@@ -16,7 +16,7 @@ use Rattle.request.specs.declared.Axes.{Axes}
 use Rattle.request.specs.declared.Request.{Request}
 use Rattle.refusal.specs.declared.Asked.the-variants.{Volume}
 use Rattle.refusal.specs.declared.Refusal.{Refusal}
-use Rattle.refusal.specs.declared.Refusal.the-variants.{NotNpy, Order, AxisNumber, Length, Factor, OutputLength, Count, Buffer, Value, Beside, Index}
+use Rattle.refusal.specs.declared.Refusal.the-variants.{NotNpy, Order, AxisNumber, Length, Factor, Slice, OutputLength, Count, Buffer, Value, Beside, Index}
 use Rattle.refusal.specs.declared.Verdict.{Verdict}
 use Rattle.refusal.specs.declared.Verdict.the-variants.{Passed, Refused}
 use Rattle.refusal.specs.Refusals.{Check, numberOf, first, shiftChecks, zoomChecks, shiftVoxelChecks, zoomVoxelChecks, shiftPointChecks, zoomPointChecks, splineFilterChecks, splineFilter1dChecks, numberBy}
@@ -34,7 +34,7 @@ use Rattle.npy.specs.File.{dimsOf, voxelsOf, written}
 use Rattle.npy.specs.Call.{npyCallBy, dimsChecks, readChecks, writeChecks, dimsCall, readCall, writeCall}
 use Rattle.numbers.specs.Numbers.{isMode, modeOf, places, tally, cleared}
 use Rattle.vurelika.specs.Door.{unknownMode, Entry, Door, doorOf, answered, doorBy, filterDoorOf, filterDoorBy, VoxelDoor, voxelDoorOf, voxelDoorBy, PointDoor, Pointing, shiftPointing, zoomPointing, pointDoorOf, pointDoorBy, npyDoor}
-use Rattle.vurelika.proofs.Empty.{inPlace, EmptyRefused, empty-refused-shift, empty-refused-zoom}
+use Rattle.vurelika.proofs.Empty.{inPlace, early, in-place-early, EmptyRefused, empty-refused-shift, empty-refused-zoom}
 use Rattle.vurelika.proofs.Doors.{unknown, filter-unknown}
 
 -- ---- the numbers
@@ -45,6 +45,7 @@ numbered Order = lit≤ tt
 numbered AxisNumber = lit≤ tt
 numbered Length = lit≤ tt
 numbered Factor = lit≤ tt
+numbered Slice = lit≤ tt
 numbered OutputLength = lit≤ tt
 numbered Count = lit≤ tt
 numbered Buffer = lit≤ tt
@@ -60,17 +61,24 @@ abbrev Nine : Verdict → Type 0
 Nine v = (why : Refusal) → v ≡ Refused why → nine why ≡ true
 
 -- ---- shift and zoom
--- an entry answers 0, or it refuses by one of the nine and leaves what it was lent
-abbrev pub Leaves : Call → List Float → List ℕ → List Float → Type 0
-Leaves call output coverage work = (numberIn (call .answer) ≡ 0) ⊎ ((why : Refusal) × (nine why ≡ true) × (call ≡ callOf (answer.Refused why) output coverage work))
+-- one of these, or 12
+abbrev upTo9Or12 : ℕ → Bool
+upTo9Or12 n = leb n 9 || eqb n 12
 
-call-leaves : (v : Verdict) → Nine v → (r : Request) (a : Axes) (input output : List Float) (coverage : List ℕ) (work : List Float) → Leaves (callBy v r a input output coverage work) output coverage work
+abbrev ten : Refusal → Bool
+ten why = upTo9Or12 (numberOf why)
+
+-- an entry answers 0, or it refuses by one of the ten and leaves what it was lent
+abbrev pub Leaves : Call → List Float → List ℕ → List Float → Type 0
+Leaves call output coverage work = (numberIn (call .answer) ≡ 0) ⊎ ((why : Refusal) × (ten why ≡ true) × (call ≡ callOf (answer.Refused why) output coverage work))
+
+call-leaves : (v : Verdict) → ((why : Refusal) → v ≡ Refused why → ten why ≡ true) → (r : Request) (a : Axes) (input output : List Float) (coverage : List ℕ) (work : List Float) → Leaves (callBy v r a input output coverage work) output coverage work
 call-leaves Passed h r a input output coverage work = inl refl
 call-leaves (Refused why) h r a input output coverage work = inr (why, h why refl, refl)
 
-leaves-range : {call : Call} {output : List Float} {coverage : List ℕ} {work : List Float} → Leaves call output coverage work → numberIn (call .answer) ≤ 9
-leaves-range (inl done) = subst (λ (n : ℕ). n ≤ 9) (sym done) (lit≤ tt)
-leaves-range (inr (why, h, left)) = subst (λ (q : Call). numberIn (q .answer) ≤ 9) (sym left) (leb-true (numberOf why) 9 h)
+leaves-range : {call : Call} {output : List Float} {coverage : List ℕ} {work : List Float} → Leaves call output coverage work → upTo9Or12 (numberIn (call .answer)) ≡ true
+leaves-range (inl done) = ap upTo9Or12 done
+leaves-range (inr (why, h, left)) = ap (λ (q : Call). upTo9Or12 (numberIn (q .answer))) left ∙ h
 
 -- what follows for the door holds of any entry that does so, and that refuses an empty output
 pub record Sound (entry : Entry) : Type 0 where
@@ -79,17 +87,17 @@ pub record Sound (entry : Entry) : Type 0 where
 
 pub shift-sound : Sound shiftCall
 unfolding shiftCall
-shift-sound = record { empty = empty-refused-shift; leaves = λ r input output coverage work. let l = shiftChecks Volume r input (length output) (length coverage) (length work) in call-leaves (first l) (found-among nine l refl) r (shiftAxes r) input output coverage work }
+shift-sound = record { empty = empty-refused-shift; leaves = λ r input output coverage work. let l = shiftChecks Volume r input (length output) (length coverage) (length work) in call-leaves (first l) (found-among ten l refl) r (shiftAxes r) input output coverage work }
 
 pub zoom-sound : Sound zoomCall
 unfolding zoomCall
-zoom-sound = record { empty = empty-refused-zoom; leaves = λ r input output coverage work. let l = zoomChecks Volume r input (length output) (length coverage) (length work) in call-leaves (first l) (found-among nine l refl) r (zoomAxes r) input output coverage work }
+zoom-sound = record { empty = empty-refused-zoom; leaves = λ r input output coverage work. let l = zoomChecks Volume r input (length output) (length coverage) (length work) in call-leaves (first l) (found-among ten l refl) r (zoomAxes r) input output coverage work }
 
--- one of the refusals 1 to 7, in its place before what `answer` would be, and every buffer as it was lent
+-- one of the refusals that stand before 7, or 7, in its place before what `answer` would be, and every buffer as it was lent
 pub record CountsRefused (door : Door) (answer : Answer) (output : List Float) (coverage : List ℕ) (work : List Float) (counts : List ℕ) : Type 0 where
   pub number : ℕ
   pub least : 1 ≤ number
-  pub most : number ≤ 7
+  pub most : early number ≡ true
   pub place : number ≡ inPlace (numberIn answer)
   pub left : door ≡ doorOf number output coverage work counts
 
@@ -116,7 +124,7 @@ module _ {entry : Entry} (sound : Sound entry) (mode : ℕ) (r : Request) (input
       record {
         number = numberOf (e .why);
         least = numbered (e .why);
-        most = e .early;
+        most = ap early (e .place) ∙ in-place-early (numberIn (entry r input output coverage work .answer));
         place = e .place;
         left = simp (known, ne-eqb (length counts) places wrong, e .left);
       }
@@ -135,12 +143,12 @@ module _ {entry : Entry} (sound : Sound entry) (mode : ℕ) (r : Request) (input
       go true false refused = refl
       go false right refused = refl
 
-  -- no answer but 255 lies outside 0 to 9
-  pub status-range : (door .status ≡ unknownMode) ⊎ (door .status ≤ 9)
+  -- no answer but 255 lies outside 0 to 9 and 12
+  pub status-range : (door .status ≡ unknownMode) ⊎ (upTo9Or12 (door .status) ≡ true)
   unfolding doorBy cleared
   status-range = go (isMode mode) (eqb (length counts) places)
     where
-      go : (known right : Bool) → (cases known right .status ≡ unknownMode) ⊎ (cases known right .status ≤ 9)
+      go : (known right : Bool) → (cases known right .status ≡ unknownMode) ⊎ (upTo9Or12 (cases known right .status) ≡ true)
       go true true = inr (leaves-range (sound .leaves r input output coverage work))
       go true false = inr (leaves-range (sound .leaves r input [] coverage work))
       go false right = inl refl
@@ -168,9 +176,12 @@ pub filter-unknown-mode : (mode : ℕ) (call : FilterCall) (output : List Float)
 filter-unknown-mode mode call output e = sym (filter-unknown mode call output e)
 
 -- ---- one voxel
--- the nine, or 11
-abbrev nineOr11 : Refusal → Bool
-nineOr11 why = nine why || eqb (numberOf why) 11
+-- these ten, or 11
+abbrev upTo9Or11Or12 : ℕ → Bool
+upTo9Or11Or12 n = upTo9Or12 n || eqb n 11
+
+abbrev eleven : Refusal → Bool
+eleven why = upTo9Or11Or12 (numberOf why)
 
 module _ (mode : ℕ) (v : Verdict) (made : Voxel) (value : List Float) (code : List ℕ) where
   abbrev voxelDoor : VoxelDoor
@@ -186,12 +197,12 @@ module _ (mode : ℕ) (v : Verdict) (made : Voxel) (value : List Float) (code : 
       go true (Refused why) refused = refl
       go false v refused = refl
 
-  -- no answer but 255 lies outside 0 to 9 and 11
-  voxel-range : ((why : Refusal) → v ≡ Refused why → nineOr11 why ≡ true) → (voxelDoor .status ≡ unknownMode) ⊎ ((leb (voxelDoor .status) 9 || eqb (voxelDoor .status) 11) ≡ true)
+  -- no answer but 255 lies outside 0 to 9, 11 and 12
+  voxel-range : ((why : Refusal) → v ≡ Refused why → eleven why ≡ true) → (voxelDoor .status ≡ unknownMode) ⊎ (upTo9Or11Or12 (voxelDoor .status) ≡ true)
   unfolding voxelDoorBy
   voxel-range h = go (isMode mode) v h
     where
-      go : (known : Bool) (v : Verdict) → ((why : Refusal) → v ≡ Refused why → nineOr11 why ≡ true) → let call = voxelCallBy v made value code in let door = cond known (voxelDoorOf (numberBy (call .answer)) (call .value) (call .code)) (voxelDoorOf unknownMode value code) in (door .status ≡ unknownMode) ⊎ ((leb (door .status) 9 || eqb (door .status) 11) ≡ true)
+      go : (known : Bool) (v : Verdict) → ((why : Refusal) → v ≡ Refused why → eleven why ≡ true) → let call = voxelCallBy v made value code in let door = cond known (voxelDoorOf (numberBy (call .answer)) (call .value) (call .code)) (voxelDoorOf unknownMode value code) in (door .status ≡ unknownMode) ⊎ (upTo9Or11Or12 (door .status) ≡ true)
       go true Passed h = inr refl
       go true (Refused why) h = inr (h why refl)
       go false v h = inl refl
@@ -199,20 +210,20 @@ module _ (mode : ℕ) (v : Verdict) (made : Voxel) (value : List Float) (code : 
 -- of both entries
 pub record VoxelSound (entry : Request → List Float → List Float → List ℕ → List Float → List ℕ → VoxelCall) : Type 0 where
   pub leaves : (mode : ℕ) (r : Request) (input work : List Float) (at : List ℕ) (value : List Float) (code : List ℕ) → let door = voxelDoorBy mode (entry r input work at value code) value code in (door .status ≡ 0 → ⊥) → door ≡ voxelDoorOf (door .status) value code
-  pub range : (mode : ℕ) (r : Request) (input work : List Float) (at : List ℕ) (value : List Float) (code : List ℕ) → let door = voxelDoorBy mode (entry r input work at value code) value code in (door .status ≡ unknownMode) ⊎ ((leb (door .status) 9 || eqb (door .status) 11) ≡ true)
+  pub range : (mode : ℕ) (r : Request) (input work : List Float) (at : List ℕ) (value : List Float) (code : List ℕ) → let door = voxelDoorBy mode (entry r input work at value code) value code in (door .status ≡ unknownMode) ⊎ (upTo9Or11Or12 (door .status) ≡ true)
 
 pub shift-voxel-sound : VoxelSound shiftVoxelCall
 unfolding shiftVoxelCall
 shift-voxel-sound = record {
   leaves = λ mode r input work at value code. voxel-leaves mode (first (shiftVoxelChecks r input (length value) (length code) (length work) at)) _ value code;
-  range = λ mode r input work at value code. let l = shiftVoxelChecks r input (length value) (length code) (length work) at in voxel-range mode (first l) _ value code (found-among nineOr11 l refl);
+  range = λ mode r input work at value code. let l = shiftVoxelChecks r input (length value) (length code) (length work) at in voxel-range mode (first l) _ value code (found-among eleven l refl);
 }
 
 pub zoom-voxel-sound : VoxelSound zoomVoxelCall
 unfolding zoomVoxelCall
 zoom-voxel-sound = record {
   leaves = λ mode r input work at value code. voxel-leaves mode (first (zoomVoxelChecks r input (length value) (length code) (length work) at)) _ value code;
-  range = λ mode r input work at value code. let l = zoomVoxelChecks r input (length value) (length code) (length work) at in voxel-range mode (first l) _ value code (found-among nineOr11 l refl);
+  range = λ mode r input work at value code. let l = zoomVoxelChecks r input (length value) (length code) (length work) at in voxel-range mode (first l) _ value code (found-among eleven l refl);
 }
 
 -- ---- the record of one axis
@@ -235,11 +246,11 @@ module _ (v : Verdict) (order prefilter mode : ℕ) (a : Axis) (i : ℕ) (coordi
       go true (Refused why) refused = refl
       go false v refused = refl
 
-  point-range : ((why : Refusal) → v ≡ Refused why → nineOr11 why ≡ true) → (pointDoor .status ≡ unknownMode) ⊎ ((leb (pointDoor .status) 9 || eqb (pointDoor .status) 11) ≡ true)
+  point-range : ((why : Refusal) → v ≡ Refused why → eleven why ≡ true) → (pointDoor .status ≡ unknownMode) ⊎ (upTo9Or11Or12 (pointDoor .status) ≡ true)
   unfolding pointDoorBy
   point-range h = go (isMode mode) v h
     where
-      go : (known : Bool) (v : Verdict) → ((why : Refusal) → v ≡ Refused why → nineOr11 why ≡ true) → (pointCases known v .status ≡ unknownMode) ⊎ ((leb (pointCases known v .status) 9 || eqb (pointCases known v .status) 11) ≡ true)
+      go : (known : Bool) (v : Verdict) → ((why : Refusal) → v ≡ Refused why → eleven why ≡ true) → (pointCases known v .status ≡ unknownMode) ⊎ (upTo9Or11Or12 (pointCases known v .status) ≡ true)
       go true Passed h = inr refl
       go true (Refused why) h = inr (h why refl)
       go false v h = inl refl
@@ -253,10 +264,10 @@ by-number f mode fill h = go (eqb mode 0) _
     go true other = h
     go false other = refl
 
--- of both entries: any answer but 0 leaves the three buffers, no answer but 255 lies outside 0 to 9 and 11, and no fill would alter anything
+-- of both entries: any answer but 0 leaves the three buffers, no answer but 255 lies outside 0 to 9, 11 and 12, and no fill would alter anything
 pub record PointSound (entry : Pointing) : Type 0 where
   pub leaves : (prefilter mode : ℕ) (coordinate : List Float) (neighbours : List ℕ) (weights : List Float) → let door = pointDoorBy entry prefilter mode coordinate neighbours weights in (door .status ≡ 0 → ⊥) → door ≡ pointDoorOf (door .status) coordinate neighbours weights
-  pub range : (prefilter mode : ℕ) (coordinate : List Float) (neighbours : List ℕ) (weights : List Float) → let door = pointDoorBy entry prefilter mode coordinate neighbours weights in (door .status ≡ unknownMode) ⊎ ((leb (door .status) 9 || eqb (door .status) 11) ≡ true)
+  pub range : (prefilter mode : ℕ) (coordinate : List Float) (neighbours : List ℕ) (weights : List Float) → let door = pointDoorBy entry prefilter mode coordinate neighbours weights in (door .status ≡ unknownMode) ⊎ (upTo9Or11Or12 (door .status) ≡ true)
   pub any-fill : (prefilter : Bool) (mode : ℕ) (fill : Float) (coordinate : List Float) (neighbours : List ℕ) (weights : List Float) → entry prefilter (modeOf mode (num 0)) coordinate neighbours weights ≡ entry prefilter (modeOf mode fill) coordinate neighbours weights
 
 module _ (n : ℕ) (factor : Float) (order i : ℕ) where
@@ -270,7 +281,7 @@ module _ (n : ℕ) (factor : Float) (order i : ℕ) where
   unfolding shiftPointCall pointDoorBy
   shift-point-sound = record {
     leaves = λ prefilter mode coordinate neighbours weights. point-leaves (first (shiftTests prefilter mode coordinate neighbours weights)) order prefilter mode _ i coordinate neighbours weights;
-    range = λ prefilter mode coordinate neighbours weights. let l = shiftTests prefilter mode coordinate neighbours weights in point-range (first l) order prefilter mode _ i coordinate neighbours weights (found-among nineOr11 l refl);
+    range = λ prefilter mode coordinate neighbours weights. let l = shiftTests prefilter mode coordinate neighbours weights in point-range (first l) order prefilter mode _ i coordinate neighbours weights (found-among eleven l refl);
     any-fill = λ prefilter mode fill coordinate neighbours weights. by-number (λ (m : BorderMode). shiftPointCall n factor order prefilter m i coordinate neighbours weights) mode fill (shift-any-fill order (num 0) fill i coordinate neighbours weights n factor prefilter);
   }
 
@@ -278,7 +289,7 @@ module _ (n : ℕ) (factor : Float) (order i : ℕ) where
   unfolding zoomPointCall pointDoorBy
   zoom-point-sound = record {
     leaves = λ prefilter mode coordinate neighbours weights. point-leaves (first (zoomTests prefilter mode coordinate neighbours weights)) order prefilter mode _ i coordinate neighbours weights;
-    range = λ prefilter mode coordinate neighbours weights. let l = zoomTests prefilter mode coordinate neighbours weights in point-range (first l) order prefilter mode _ i coordinate neighbours weights (found-among nineOr11 l refl);
+    range = λ prefilter mode coordinate neighbours weights. let l = zoomTests prefilter mode coordinate neighbours weights in point-range (first l) order prefilter mode _ i coordinate neighbours weights (found-among eleven l refl);
     any-fill = λ prefilter mode fill coordinate neighbours weights. by-number (λ (m : BorderMode). zoomPointCall n factor order prefilter m i coordinate neighbours weights) mode fill (zoom-any-fill order (num 0) fill i coordinate neighbours weights n factor prefilter);
   }
 

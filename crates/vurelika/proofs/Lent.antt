@@ -13,15 +13,15 @@ use Rattle.axis.specs.Coordinate.{pads}
 use Rattle.axis.specs.Length.{outputLength}
 use Rattle.request.specs.declared.Request.{Request}
 use Rattle.request.specs.Sizes.{needed, zoomDims}
-use Rattle.request.specs.Conditions.{badLength, badLengths, badZoom, badFactors}
+use Rattle.request.specs.Conditions.{badLength, badLengths, badZoom, badFactors, zoomsSlice, zoomsSlices, badOutput, badOutputs}
 use Rattle.lists.proofs.Somes.{none-at}
 use Rattle.numbers.specs.Numbers.{isMode, modeOf, requestOf}
 use Rattle.vurelika.specs.Door.{zoomLength, workCount}
 
--- a length that 3 to 5 let pass
-zoom-length : (length : ℕ) (factor : Float) → badLength length ≡ false → badZoom factor ≡ false → badLength (outputLength length factor) ≡ false → outputLength length factor ≡ zoomLength length factor
+-- a length that 3, 4, 12 and 5 let pass
+zoom-length : (length : ℕ) (factor : Float) → badLength length ≡ false → badZoom factor ≡ false → zoomsSlice length (outputLength length factor) ≡ false → badOutput length (outputLength length factor) ≡ false → outputLength length factor ≡ zoomLength length factor
 unfolding zoomLength
-zoom-length length factor p q s = simp (p, q, s)
+zoom-length length factor p q t s = simp (p, q, t, s)
 
 module _ (d0 d1 d2 : ℕ) (f0 f1 f2 : Float) (order prefilter mode : ℕ) (fill : Float) where
   abbrev asked : Request
@@ -43,14 +43,15 @@ module _ (d0 d1 d2 : ℕ) (f0 f1 f2 : Float) (order prefilter mode : ℕ) (fill 
   work-count-needed known low long = simp (known, low, long, pads-by-number)
 
   -- ---- zoom's output
-  -- where 3 to 5 do not answer, the lengths are those of zoom's output
-  pub zoom-lengths : badLengths (asked .dims) ≡ false → badFactors badZoom (asked .factors) ≡ false → badLengths (zoomDims asked) ≡ false → zoomDims asked ≡ zoomLength d0 f0 ∷ zoomLength d1 f1 ∷ zoomLength d2 f2 ∷ []
-  unfolding badLengths badFactors
-  zoom-lengths long sound out =
+  -- where 3, 4, 12 and 5 do not answer, the lengths are those of zoom's output
+  pub zoom-lengths : badLengths (asked .dims) ≡ false → badFactors badZoom (asked .factors) ≡ false → zoomsSlices (asked .dims) (zoomDims asked) ≡ false → badOutputs (asked .dims) (zoomDims asked) ≡ false → zoomDims asked ≡ zoomLength d0 f0 ∷ zoomLength d1 f1 ∷ zoomLength d2 f2 ∷ []
+  unfolding badLengths badFactors zoomsSlices badOutputs
+  zoom-lengths long sound slice out =
       let p = none-at (λ (i : ℕ). badLength (getD (asked .dims) i 0)) 3 long in
       let q = none-at (λ (i : ℕ). badZoom (getD (asked .factors) i nan)) 3 sound in
-      let s = none-at (λ (i : ℕ). badLength (getD (zoomDims asked) i 0)) 3 out in
-      λ i. zoom-length d0 f0 (p 0 (lit≤ tt)) (q 0 (lit≤ tt)) (s 0 (lit≤ tt)) i
-      ∷ zoom-length d1 f1 (p 1 (lit≤ tt)) (q 1 (lit≤ tt)) (s 1 (lit≤ tt)) i
-      ∷ zoom-length d2 f2 (p 2 (lit≤ tt)) (q 2 (lit≤ tt)) (s 2 (lit≤ tt)) i
+      let t = none-at (λ (i : ℕ). zoomsSlice (getD (asked .dims) i 0) (getD (zoomDims asked) i 0)) 3 slice in
+      let s = none-at (λ (i : ℕ). badOutput (getD (asked .dims) i 0) (getD (zoomDims asked) i 0)) 3 out in
+      λ i. zoom-length d0 f0 (p 0 (lit≤ tt)) (q 0 (lit≤ tt)) (t 0 (lit≤ tt)) (s 0 (lit≤ tt)) i
+      ∷ zoom-length d1 f1 (p 1 (lit≤ tt)) (q 1 (lit≤ tt)) (t 1 (lit≤ tt)) (s 1 (lit≤ tt)) i
+      ∷ zoom-length d2 f2 (p 2 (lit≤ tt)) (q 2 (lit≤ tt)) (t 2 (lit≤ tt)) (s 2 (lit≤ tt)) i
       ∷ []

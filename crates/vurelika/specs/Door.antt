@@ -1,4 +1,4 @@
--- "It returns 0 for success or the refusal's number. Modes: 0 Constant, 1 Mirror, 2 Nearest, 3 Reflect, 4 Wrap, 5 Replicate; any other is answered 255 before all else: no request could be formed, so it is none of document 01's refusals. `fill` is read in mode 0 alone. `prefilter` is on where it is not 0. `counts` has exactly as many places as there are codes, else 7 in its place in the order: the door then hands the entry an empty output, whose length no request has, so that the entry itself gives 1 to 6 or 7 and writes nothing. Where `counts` has the right length it is written 0 on 255 and on every refusal."
+-- "It returns 0 for success or the refusal's number. Modes: 0 Constant, 1 Mirror, 2 Nearest, 3 Reflect, 4 Wrap, 5 Replicate; any other is answered 255 before all else: no request could be formed, so it is none of document 01's refusals. `fill` is read in mode 0 alone. `prefilter` is on where it is not 0. `counts` has exactly as many places as there are codes, else 7 in its place in the order: the door then hands the entry an empty output, whose length no request has, so that the entry itself gives what stands before 7, or 7, and writes nothing. Where `counts` has the right length it is written 0 on 255 and on every refusal."
 use Prim.Native.Nat.{ℕ}
 use mathlib.Core.Bool.{Bool, not, _||_, cond}
 use mathlib.Core.List.{List, [], _∷_}
@@ -10,7 +10,7 @@ use Rattle.border.specs.declared.BorderMode.{BorderMode}
 use Rattle.axis.specs.Length.{outputLength}
 use Rattle.request.specs.declared.Request.{Request}
 use Rattle.request.specs.Sizes.{needed}
-use Rattle.request.specs.Conditions.{badOrder, badLength, badLengths, badZoom}
+use Rattle.request.specs.Conditions.{badOrder, badLength, badLengths, badZoom, zoomsSlice, badOutput}
 use Rattle.refusal.specs.Refusals.{numberBy}
 use Rattle.numbers.specs.Numbers.{isMode, modeOf, plainRequestOf, places, tally, cleared}
 use Rattle.npy.specs.Call.{NpyCall}
@@ -112,11 +112,11 @@ abbrev pub npyDoor : NpyCall → NpyDoor
 npyDoor call = npyDoorOf (numberBy (call .answer)) (call .buffer)
 
 -- ---- how much a caller lends
--- "0 where refusals 3 to 5 would answer"
+-- "0 where refusals 3 to 5 would answer", 12 among them since #106
 unfoldable pub zoomLength : ℕ → Float → ℕ
 zoomLength length factor =
     cond (badLength length || badZoom factor) 0
-    (let n = outputLength length factor in cond (badLength n) 0 n)
+    (let n = outputLength length factor in cond (zoomsSlice length n || badOutput length n) 0 n)
 
 -- 0 too where the mode, the order or a length is refused: no call is then answered, whatever the work
 unfoldable pub workCount : ℕ → ℕ → ℕ → ℕ → ℕ → ℕ → ℕ

@@ -22,7 +22,9 @@ use one_voxel::zoom_voxel;
 use refusal::number_by;
 use request::conditions::bad_length;
 use request::conditions::bad_lengths;
+use request::conditions::bad_output;
 use request::conditions::bad_zoom;
+use request::conditions::zooms_slice;
 use request::sizes::needed;
 use resample::number_in;
 use resample::shift;
@@ -302,7 +304,7 @@ pub extern "C" fn vurelika_npy_write(
     number_by(npy::write([d0, d1, d2], volume, bytes))
 }
 
-// Zoom's output length; 0 where refusals 3 to 5 would answer.
+// Zoom's output length; 0 where refusal 3, 4, 12 or 5 would answer.
 #[no_mangle]
 pub extern "C" fn vurelika_zoom_length(length: usize, factor: f64) -> usize
     ensures { λ n. ⌜ n ≡ zoomLength length factor ⌝ }
@@ -314,7 +316,10 @@ pub extern "C" fn vurelika_zoom_length(length: usize, factor: f64) -> usize
         return 0;
     }
     let n = output_length(length, factor);
-    if bad_length(n) {
+    if zooms_slice(length, n) {
+        return 0;
+    }
+    if bad_output(length, n) {
         return 0;
     }
     n

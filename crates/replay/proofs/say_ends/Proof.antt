@@ -8,7 +8,7 @@ abbrev Inv-loop : tie.InvT-loop
 Inv-loop ends n₀ n = Unit {0}
 
 abbrev μ-loop : tie.MeasureT-loop
-μ-loop ends n₀ n = 10 - n
+μ-loop ends n₀ n = 11 - n
 
 loop-holds : tie.Need-loop-holds Inv-loop μ-loop
 loop-holds c = search needs

@@ -1,15 +1,9 @@
 -- `vurelika::vurelika_zoom_length` meets its contract.
-use Prim.Native.Nat.{ℕ}
 use mathlib.Core.Path.{_≡_, sym, ap, _∙_}
 use mathlib.Core.Bool.{false}
-use lib.Dec.{ltb}
-use lib.Ieee.{Float, lt, le}
-use borrow.Author.Tests.{ltb-false}
-use Rattle.axis.specs.Bookkeeping.{Zooms}
-use Rattle.exact.specs.Rounded.{num}
-use Rattle.request.specs.Conditions.{badLength, badZoom}
-use Rattle.lists.proofs.Somes.{or-false}
-use Rattle.request.proofs.Requests.{not-both}
+use Rattle.axis.specs.Length.{outputLength}
+use Rattle.request.specs.Conditions.{badLength, badZoom, zoomsSlice, badOutput}
+use Rattle.request.proofs.Requests.{good-zoom}
 use Rattle.vurelika.specs.Door.{zoomLength}
 use borrow.Author.Needs.{needs}
 use Rattle.vurelika.proofs.vurelika_zoom_length.Statement.{statement}
@@ -21,11 +15,6 @@ length-good c = sym (c .before .bad-length .ensures) ∙ c .if1 .left
 
 factor-good : (c : tie.Else2) → badZoom (c .before .before .before .before .args .factor) ≡ false
 factor-good c = sym (c .before .bad-zoom .ensures) ∙ c .if2 .left
-
-zooms : (length : ℕ) (factor : Float) → badLength length ≡ false → badZoom factor ≡ false → Zooms length factor
-zooms length factor long sound =
-    let h = not-both (lt (num 0) factor) (le factor (num 4096)) sound in
-    record { short = ltb-false 4096 length (or-false (ltb length 2) (ltb 4096 length) long .1); above = h .0; most = h .1 }
 
 bad-length-requires : tie.Need-bad-length-requires
 bad-length-requires c κs = search needs
@@ -42,24 +31,40 @@ unfolding zoomLength
 returns-2 c = simp (length-good (c .before .before), sym (c .before .bad-zoom .ensures) ∙ c .if2 .taken)
 
 output-length-requires : tie.Need-output-length-requires
-output-length-requires c κs = zooms _ _ (length-good (c .before .before)) (factor-good c)
+output-length-requires c κs = good-zoom _ _ (length-good (c .before .before)) (factor-good c)
 
-bad-length-requires-2 : tie.Need-bad-length-requires-2
-bad-length-requires-2 c κs = search needs
+zooms-slice-requires : tie.Need-zooms-slice-requires
+zooms-slice-requires c κs = search needs
+
+-- the output length that is tested is the specified one
+slice : (c : tie.After-zooms-slice) → let a = c .before .before .before .before .before .before .args in c .zooms-slice .result ≡ zoomsSlice (a .length) (outputLength (a .length) (a .factor))
+slice c = c .zooms-slice .ensures ∙ ap (zoomsSlice (c .before .before .before .before .before .before .args .length)) (c .before .output-length .ensures)
 
 returns-3 : tie.Need-returns-3
 unfolding zoomLength
 returns-3 c =
     let out = c .before .before in
-    let long = ap badLength (sym (out .output-length .ensures)) ∙ sym (c .before .bad-length2 .ensures) ∙ c .if3 .taken in
-    simp (length-good (out .before .before .before), factor-good (out .before), long)
+    simp (length-good (out .before .before .before), factor-good (out .before), sym (slice (c .before)) ∙ c .if3 .taken)
+
+bad-output-requires : tie.Need-bad-output-requires
+bad-output-requires c κs = search needs
+
+outs : (c : tie.After-bad-output) → let a = c .before .before .before .before .before .before .before .before .args in c .bad-output .result ≡ badOutput (a .length) (outputLength (a .length) (a .factor))
+outs c = c .bad-output .ensures ∙ ap (badOutput (c .before .before .before .before .before .before .before .before .args .length)) (c .before .before .before .output-length .ensures)
 
 returns-4 : tie.Need-returns-4
 unfolding zoomLength
 returns-4 c =
-    let out = c .before .before in
-    let long = ap badLength (sym (out .output-length .ensures)) ∙ sym (c .before .bad-length2 .ensures) ∙ c .if3 .left in
-    out .output-length .ensures ∙ simp (length-good (out .before .before .before), factor-good (out .before), long)
+    let s = c .before .before in
+    let out = s .before .before in
+    simp (length-good (out .before .before .before), factor-good (out .before), sym (slice (s .before)) ∙ s .if3 .left, sym (outs (c .before)) ∙ c .if4 .taken)
+
+returns-5 : tie.Need-returns-5
+unfolding zoomLength
+returns-5 c =
+    let s = c .before .before in
+    let out = s .before .before in
+    out .output-length .ensures ∙ simp (length-good (out .before .before .before), factor-good (out .before), sym (slice (s .before)) ∙ s .if3 .left, sym (outs (c .before)) ∙ c .if4 .left)
 
 pub vurelika-zoom-length-spec : {M : Type 1} → statement M
 vurelika-zoom-length-spec =
@@ -70,6 +75,8 @@ vurelika-zoom-length-spec =
     bad-zoom-requires
     returns-2
     output-length-requires
-    bad-length-requires-2
+    zooms-slice-requires
     returns-3
-    returns-4)
+    bad-output-requires
+    returns-4
+    returns-5)

@@ -15,7 +15,7 @@ loop-holds : tie.Need-loop-holds Inv-loop μ-loop
 loop-holds c = search needs
 
 point-at-requires : tie.Need-point-at-requires Inv-loop μ-loop
-point-at-requires c κs = let s = c .before .before .before .pre in record { upto = s .1 .0; least = s .0 .least; most = s .0 .most; bound = s .0 .bound (c .before .loop .i) (omega arith); pad = s .0 .pad }
+point-at-requires c κs = let s = c .before .before .before .pre in record { upto = s .1 .0; least = omega (arith, s .0 .least); most = s .0 .most; bound = s .0 .bound (c .before .loop .i) (omega arith); pad = s .0 .pad }
 
 add-expect-record : tie.Need-add-expect-record Inv-loop μ-loop
 add-expect-record c = search needs
