@@ -6,6 +6,12 @@
  * is not kept after the call. Any numbers and any lengths are answered: a call ends in success or in a
  * refusal (below).
  *
+ * An axis may have length 1. So a radiograph is a volume, of 1 by d1 by d2 say, and so are a single lane and a
+ * single voxel. Such an axis takes the shift 0.0 or -0.0, or a zoom that leaves it 1, whose factor is above 0.5
+ * and below 1.5; else the answer is VURELIKA_SLICE. It is not filtered, not padded and not folded, whatever the
+ * mode and order: its one voxel enters with a single weight of exactly 1. So it drops no voxel, gives none the
+ * code 3, and never meets VURELIKA_BESIDE. The other axes are as in any volume.
+ *
  * The caller sees to this:
  * - A pointer is good for its number of places, and aligned for its type as C asks. A buffer of 0
  *   places may be NULL.
@@ -24,7 +30,7 @@
 #include <stddef.h>
 #include <stdint.h>
 
-#define VURELIKA_VERSION "0.4.0"
+#define VURELIKA_VERSION "0.5.0"
 
 #ifdef __cplusplus
 extern "C" {
@@ -55,10 +61,13 @@ enum {
                                    three axes */
     VURELIKA_ORDER = 1,         /* the order is above 5; for vurelika_spline_filter also 0 or 1 */
     VURELIKA_AXIS = 2,          /* vurelika_spline_filter1d: the axis is above 2 */
-    VURELIKA_LENGTH = 3,        /* an input axis is shorter than 2 or longer than 4,096 */
+    VURELIKA_LENGTH = 3,        /* an input axis has length 0, or is longer than 4,096 */
     VURELIKA_FACTOR = 4,        /* a shift is not finite, or its size is 2^20 or more; a zoom factor is
                                    not finite, not above 0, or above 4,096 */
-    VURELIKA_OUTPUT_LENGTH = 5, /* zoom: an output axis would be shorter than 2 or longer than 4,096 */
+    VURELIKA_SLICE = 12,        /* an axis of length 1 has a shift other than 0, or a zoom to a length other
+                                   than 1: a factor of 0.5 or less, or of 1.5 or more */
+    VURELIKA_OUTPUT_LENGTH = 5, /* zoom: an axis longer than 1 would come out shorter than 2 or longer than
+                                   4,096 */
     VURELIKA_COUNT = 6,         /* input, output or needed work has more than 2^27 places */
     VURELIKA_BUFFER = 7,        /* a buffer has the wrong number of places */
     VURELIKA_VALUE = 8,         /* the fill or a voxel is not finite, or its size exceeds 2^100 */
@@ -69,11 +78,12 @@ enum {
 
 /* What coverage says of a voxel, and what that means for a density.
  *
- * A voxel is computed from order + 1 neighbours on each axis. Near an edge some of them lie outside the
- * scan, and the value of a voxel inside is read in their stead (the fold): some of the scan is then
- * weighed twice. Where such a neighbour has a weight that is not 0 the code is 3, not 0. At order 0 there
- * is no code 3; above order 1 the ends of an axis bear it even where nothing is moved. With prefilter a
- * neighbour is a coefficient, which draws on its whole line; the codes speak of the neighbours alone.
+ * A voxel is computed from order + 1 neighbours on each axis longer than 1. Near an edge some of them lie
+ * outside the scan, and the value of a voxel inside is read in their stead (the fold): some of the scan is
+ * then weighed twice. Where such a neighbour has a weight that is not 0 the code is 3, not 0. At order 0 there
+ * is no code 3; above order 1 the ends of an axis longer than 1 bear it even where nothing is moved. With
+ * prefilter a neighbour is a coefficient, which draws on its whole line; the codes speak of the neighbours
+ * alone.
  *
  * In Constant codes 0 and 3 say that the place lay in the scan: on each axis from 0 up to, not
  * including, the length. In the other modes they do not say so: a place beyond the scan is folded back
@@ -98,7 +108,8 @@ enum {
 /* How many codes there are, and places of counts. */
 #define VURELIKA_CODES 4
 
-/* Shifts a volume by f0, f1, f2 voxels: the output voxel at index i of an axis is the input at i - f.
+/* Shifts a volume by f0, f1, f2 voxels: the output voxel at index i of an axis is the input at i - f. Of an
+ * axis of length 1 f is 0.
  * order 0 copies the nearest voxel, 1 to 5 are splines; with prefilter not 0, orders 2 to 5 filter the
  * voxels first. fill is read in mode Constant alone.
  *
@@ -117,7 +128,8 @@ uint32_t vurelika_shift(size_t d0, size_t d1, size_t d2, double f0, double f1, d
                         uint64_t *counts, size_t counts_len);
 
 /* Zooms a volume by the factors f0, f1, f2. output and coverage have as many places as the product of
- * the three vurelika_zoom_length; all else is as with vurelika_shift. */
+ * the three vurelika_zoom_length; all else is as with vurelika_shift. No axis comes out with length 1 but one
+ * that has it: a longer one is then VURELIKA_OUTPUT_LENGTH. */
 uint32_t vurelika_zoom(size_t d0, size_t d1, size_t d2, double f0, double f1, double f2,
                        size_t order, uint32_t prefilter, uint32_t mode, double fill,
                        const double *input, size_t input_len, double *output, size_t output_len,
@@ -158,12 +170,14 @@ uint32_t vurelika_zoom_voxel(size_t d0, size_t d1, size_t d2, double f0, double 
  * coordinate, the neighbours and their weights. length, shift and index are those of the axis.
  *
  * coordinate has exactly 1 place. It takes the coordinate as it stands once the mode has folded it, on the axis
- * as padded: where orders 2 to 5 prefilter in Nearest and Replicate, 12 edge copies stand on each side, and 12 is
- * added. Above -1 the index is kept, else it is dropped.
+ * as padded: where orders 2 to 5 prefilter in Nearest and Replicate, 12 edge copies stand on each side of an axis
+ * longer than 1, and 12 is added. Above -1 the index is kept, else it is dropped.
  *
  * neighbours and weights have exactly VURELIKA_NEIGHBOURS places each, 6. Of a kept index the first order + 1 are
  * the neighbours' indices, on the axis as padded and folded back into it, and their weights; the rest are 0 and
- * 0.0. Of a dropped index all are 0 and 0.0.
+ * 0.0. Of a dropped index all are 0 and 0.0. An axis of length 1 has one neighbour at every order: the coordinate
+ * is 0, the neighbours are 0, 0, 0, 0, 0, 0, and the weights 1, 0, 0, 0, 0, 0. The products of finite voxels with
+ * weight 0 change no sum.
  *
  * A voxel that some axis drops is the fill in Constant, and else 0.0. At order 0 the one voxel at the three
  * neighbours is copied. Else the sum starts at 0.0 and adds
@@ -172,38 +186,44 @@ uint32_t vurelika_zoom_voxel(size_t d0, size_t d1, size_t d2, double f0, double 
  *
  * for all neighbours, those of axis 2 outermost and those of axis 0 innermost, each operation rounded once. The
  * voxels are those of the input; where orders 2 to 5 prefilter, they are the coefficients in work, a volume whose
- * axes have the input's lengths, or in Nearest and Replicate 24 more.
+ * axes have the input's lengths, or in Nearest and Replicate 24 more where they are longer than 1.
  *
- * Refusals: VURELIKA_MODE, VURELIKA_ORDER, VURELIKA_LENGTH, VURELIKA_FACTOR, VURELIKA_BUFFER, VURELIKA_BESIDE
- * (at any index of this axis), VURELIKA_INDEX. coordinate, neighbours and weights then hold what they held. */
+ * Refusals: VURELIKA_MODE, VURELIKA_ORDER, VURELIKA_LENGTH, VURELIKA_FACTOR, VURELIKA_SLICE, VURELIKA_BUFFER,
+ * VURELIKA_BESIDE (at any index of this axis), VURELIKA_INDEX. coordinate, neighbours and weights then hold what
+ * they held. */
 uint32_t vurelika_shift_point(size_t length, double shift, size_t order, uint32_t prefilter, uint32_t mode,
                               size_t index, double *coordinate, size_t coordinate_len,
                               size_t *neighbours, size_t neighbours_len, double *weights, size_t weights_len);
 
-/* The same of a zoom, with VURELIKA_OUTPUT_LENGTH among the refusals, in its place. */
+/* The same of a zoom, with VURELIKA_OUTPUT_LENGTH among the refusals, directly after VURELIKA_SLICE. */
 uint32_t vurelika_zoom_point(size_t length, double factor, size_t order, uint32_t prefilter, uint32_t mode,
                              size_t index, double *coordinate, size_t coordinate_len,
                              size_t *neighbours, size_t neighbours_len, double *weights, size_t weights_len);
 
 /* The spline coefficients of a volume, along all three axes. input and output have d0 * d1 * d2 places
- * each. Never pads, in Nearest and Replicate neither. The fill is checked in mode Constant, though it is
- * not used. */
+ * each. Never pads, in Nearest and Replicate neither. Along an axis of length 1 nothing is filtered, so a single
+ * voxel is copied, bit for bit. The fill is checked in mode Constant, though it is not used. */
 uint32_t vurelika_spline_filter(size_t d0, size_t d1, size_t d2, size_t order, uint32_t mode,
                                 double fill, const double *input, size_t input_len,
                                 double *output, size_t output_len);
 
-/* The same along one axis: 0, 1 or 2. Orders 0 and 1 copy the input. */
+/* The same along one axis: 0, 1 or 2. Orders 0 and 1 copy the input, and so does every order along an axis of
+ * length 1, bit for bit. */
 uint32_t vurelika_spline_filter1d(size_t d0, size_t d1, size_t d2, size_t order, size_t axis,
                                   uint32_t mode, double fill, const double *input, size_t input_len,
                                   double *output, size_t output_len);
 
-/* The length of an axis that is zoomed by a factor; 0 where zoom would refuse it (refusals 3 to 5). */
+/* The length of an axis that is zoomed by a factor; 0 where zoom would refuse it (VURELIKA_LENGTH,
+ * VURELIKA_FACTOR, VURELIKA_SLICE, VURELIKA_OUTPUT_LENGTH). Of length 1 it is 1 for factors above 0.5 and below
+ * 1.5, else 0; of a longer axis never 1. */
 size_t vurelika_zoom_length(size_t length, double factor);
 
-/* How many places of work vurelika_shift and vurelika_zoom need. 0 means one of two things: they need
- * none, which is so without prefilter and below order 2; or they refuse whatever work is (VURELIKA_MODE,
- * VURELIKA_ORDER, VURELIKA_LENGTH). Later refusals are not looked for, so it may be more than any call
- * takes: for 4,096 by 4,096 by 4,096 voxels with prefilter 2^36, where a call gives VURELIKA_COUNT. */
+/* How many places of work vurelika_shift and vurelika_zoom need: as many as the input has, or in Nearest and
+ * Replicate as many as it has with 24 added to each axis longer than 1. 1 by 2 by 4 voxels need 1 * 26 * 28 =
+ * 728 there. 0 means one of two things: they need none, which is so without prefilter and below order 2; or they
+ * refuse whatever work is (VURELIKA_MODE, VURELIKA_ORDER, VURELIKA_LENGTH). Later refusals are not looked for,
+ * so it may be more than any call takes: for 4,096 by 4,096 by 4,096 voxels with prefilter 2^36, where a call
+ * gives VURELIKA_COUNT. */
 size_t vurelika_work_count(size_t d0, size_t d1, size_t d2, size_t order, uint32_t prefilter,
                            uint32_t mode);
 

@@ -93,12 +93,13 @@ int main(void)
              && vurelika_work_count(D, D, D, 3, 0, VURELIKA_MIRROR) == 0,
          "no work is needed below order 2, or without prefilter");
     hold(vurelika_work_count(D, D, D, 6, 1, VURELIKA_MIRROR) == 0
-             && vurelika_work_count(D, D, 1, 3, 1, VURELIKA_MIRROR) == 0
+             && vurelika_work_count(D, D, 0, 3, 1, VURELIKA_MIRROR) == 0
              && vurelika_work_count(D, D, 4097, 3, 1, VURELIKA_MIRROR) == 0
              && vurelika_work_count(D, D, D, 3, 1, NO_MODE) == 0,
          "work is 0 too at refusals 1 and 3 and at 255");
-    hold(vurelika_zoom_length(4, 1.75) == 7 && vurelika_zoom_length(1, 2.0) == 0
-             && vurelika_zoom_length(4, 0.0) == 0 && vurelika_zoom_length(4, 0.25) == 0,
-         "a zoomed length is 0 at refusals 3, 4 and 5");
+    hold(vurelika_zoom_length(4, 1.75) == 7 && vurelika_zoom_length(0, 1.0) == 0
+             && vurelika_zoom_length(4097, 1.0) == 0 && vurelika_zoom_length(4, 0.0) == 0
+             && vurelika_zoom_length(1, 2.0) == 0 && vurelika_zoom_length(4, 0.25) == 0,
+         "a zoomed length is 0 at refusals 3, 4, 12 and 5");
     return wrong;
 }

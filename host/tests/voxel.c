@@ -256,8 +256,11 @@ static void hold_point_refusals(void)
 {
     hold(point_lent(0.0, 6, 0, NO_MODE, D2, 0, 0, 0) == VURELIKA_MODE && left_alone(), "255 comes first");
     hold(point_lent(0x1p20, 6, 0, VURELIKA_WRAP, D2, 0, 0, 0) == VURELIKA_ORDER && left_alone(), "then 1");
-    hold(zoom_point(1, 0.0, 1, VURELIKA_WRAP, D2) == VURELIKA_LENGTH && left_alone(), "then 3");
-    hold(point_lent(0x1p20, 0, 0, VURELIKA_WRAP, D2, 0, 0, 0) == VURELIKA_FACTOR && left_alone(), "then 4");
+    hold(zoom_point(0, 0.0, 1, VURELIKA_WRAP, D2) == VURELIKA_LENGTH && left_alone(), "then 3");
+    hold(point_lent(0x1p20, 0, 0, VURELIKA_WRAP, D2, 0, 0, 0) == VURELIKA_FACTOR && left_alone()
+             && zoom_point(1, 0.0, 1, VURELIKA_WRAP, D2) == VURELIKA_FACTOR && left_alone(),
+         "then 4");
+    hold(zoom_point(1, 0.25, 1, VURELIKA_WRAP, D2) == VURELIKA_SLICE && left_alone(), "then 12");
     hold(zoom_point(D2, 0.25, 1, VURELIKA_WRAP, D2) == VURELIKA_OUTPUT_LENGTH && left_alone(), "then 5 in zoom");
     for (size_t wrong_len = FEWER; wrong_len <= MORE; wrong_len += 2)
         hold(point_lent(-0.5, 0, 0, VURELIKA_WRAP, D2, 1, wrong_len, VURELIKA_NEIGHBOURS) == VURELIKA_BUFFER

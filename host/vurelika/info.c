@@ -1,6 +1,8 @@
 /* Says what a .npy file holds: lengths, finite or not, least and largest, the first wild voxel.
  * usage: vurelika info FILE
  *
+ * Lengths from 1 to 4,096 are taken (else refusal 3). One of 1 is a single slice, as a radiograph has it: shift
+ * takes 0 there, and zoom factors above 0.5 and below 1.5.
  * A voxel is wild where it is not finite, or its size exceeds 2^100: shift and zoom refuse it (refusal 8). */
 #include <math.h>
 #include <stdio.h>

@@ -2,7 +2,8 @@
  * usage: vurelika shift IN.npy OUT.npy --shift X,Y,Z --order N --mode NAME [--fill F] [--no-prefilter]
  *     [--coverage CODES.npy] [--dry-run] [--force]
  *
- * --shift X,Y,Z          voxels along each axis: what comes out at index i is the input at i - shift
+ * --shift X,Y,Z          voxels along each axis: what comes out at index i is the input at i - shift. An axis of
+ *                        1 voxel, as a radiograph has, takes 0 alone, and is left as it is
  * --order N              0 copies the nearest voxel, 1 to 5 are splines
  * --mode NAME            what stands outside: constant, mirror, nearest, reflect, wrap or replicate.
  *                        For SciPy's mode='nearest' take replicate: nearest is the Rust's, and writes 0.0,

@@ -10,7 +10,7 @@
  * Value, bits and code are those that shift or zoom writes there. Then come the coordinate of each axis, its
  * neighbours and their weights, and the numbers that the sum reads, in its order: the voxels, or, where orders 2
  * to 5 prefilter, the coefficients. So the sum can be checked on paper: all numbers have as many digits as it
- * takes to read them again. */
+ * takes to read them again. An axis of 1 voxel has one neighbour, with a weight of exactly 1. */
 #include <inttypes.h>
 #include <stdio.h>
 #include <stdlib.h>
@@ -29,8 +29,9 @@ enum { PAD = 12 }; /* edge copies on each side of an axis that is padded */
 struct source {
     const char *name;
     const double *numbers;
+    size_t pads[3];    /* of each axis; 0 where there is none */
     size_t lengths[3]; /* of the axes as padded */
-    size_t pad;        /* 0 where there is none */
+    size_t counts[3];  /* how many neighbours are read on each */
 };
 
 /* All that the library says of the voxel. */
@@ -70,25 +71,29 @@ static struct answer answer_of(const struct request *r, const size_t lengths[3],
     return answer;
 }
 
-/* Work is needed for coefficients alone, and for more of them than there are voxels where the axes are padded. */
-static struct source source_of(const size_t lengths[3], const double *voxels, const double *work,
-                               size_t work_len)
+/* Work is needed for coefficients alone, and for more of them than there are voxels where axes are padded. An axis
+ * of one voxel never is, and has one neighbour: the places behind it in its record weigh nothing. */
+static struct source source_of(const struct request *r, const size_t lengths[3], const double *voxels,
+                               const double *work, size_t work_len)
 {
-    struct source source = {"the input", voxels, {0}, 0};
+    struct source source = {.name = "the input", .numbers = voxels};
+    size_t pad = work_len > voxels_of(lengths) ? PAD : 0;
 
     if (work_len > 0) {
         source.name = "the coefficients of the input";
         source.numbers = work;
-        source.pad = work_len > voxels_of(lengths) ? PAD : 0;
     }
-    for (size_t axis = 0; axis < 3; axis++)
-        source.lengths[axis] = lengths[axis] + 2 * source.pad;
+    for (size_t axis = 0; axis < 3; axis++) {
+        source.pads[axis] = lengths[axis] > 1 ? pad : 0;
+        source.lengths[axis] = lengths[axis] + 2 * source.pads[axis];
+        source.counts[axis] = lengths[axis] > 1 ? r->order + 1 : 1;
+    }
     return source;
 }
 
 /* ---- tables */
 
-/* A row of numbers, of which the first order + 1 count; the others are those of index 0. */
+/* A row of numbers, of which as many count as its axis has neighbours; the others are those of index 0. */
 struct row {
     double at[VURELIKA_NEIGHBOURS];
 };
@@ -163,16 +168,17 @@ static int is_kept(const struct point *point)
     return point->coordinate > -1.0;
 }
 
-static void say_axis(const struct request *r, size_t axis, size_t pad, const struct point *point)
+static void say_axis(const struct request *r, const struct source *source, size_t axis, const struct point *point)
 {
     struct row neighbours = neighbours_row(point), weights = weights_row(point);
-    size_t count = r->order + 1;
+    size_t count = source->counts[axis], pad = source->pads[axis];
     int width = widened(widened(0, neighbours, count), weights, count);
 
     printf("axis %zu: index %zu, coordinate %s", axis, r->at[axis], number(point->coordinate).text);
     if (pad > 0)
         printf(" with the pad of %zu", pad);
-    printf(", %s\n", is_kept(point) ? "kept" : "dropped");
+    printf(", %s%s\n", is_kept(point) ? "kept" : "dropped",
+           source->lengths[axis] == 1 ? "; of length 1, so its one voxel has a weight of exactly 1" : "");
     if (!is_kept(point))
         return;
     say_row("neighbours", width, neighbours, count);
@@ -180,18 +186,19 @@ static void say_axis(const struct request *r, size_t axis, size_t pad, const str
 }
 
 /* A line for each pair of neighbours of z and y, z outermost: the sum goes through them as one reads. */
-static void say_source(const struct source *source, const struct point points[3], size_t count)
+static void say_source(const struct source *source, const struct point points[3])
 {
     struct row x = neighbours_row(&points[0]);
+    size_t count = source->counts[0], y_count = source->counts[1], lines = y_count * source->counts[2];
     int width = widened(0, x, count);
 
     printf("reads: %s, %zu by %zu by %zu\n", source->name, source->lengths[0], source->lengths[1],
            source->lengths[2]);
-    for (size_t line = 0; line < count * count; line++)
-        width = widened(width, read_row(source, points, line % count, line / count), count);
+    for (size_t line = 0; line < lines; line++)
+        width = widened(width, read_row(source, points, line % y_count, line / y_count), count);
     say_row("x", width, x, count);
-    for (size_t line = 0; line < count * count; line++) {
-        size_t j = line % count, k = line / count;
+    for (size_t line = 0; line < lines; line++) {
+        size_t j = line % y_count, k = line / y_count;
         char name[48];
 
         snprintf(name, sizeof name, "z %zu, y %zu", points[2].neighbours[k], points[1].neighbours[j]);
@@ -210,7 +217,7 @@ static void say_rule(const struct request *r, const struct source *source, const
     else
         puts("rule: from 0.0 on add number * (x weight * (y weight * z weight)), line by line and from left to\n"
              "      right; each operation is rounded once");
-    say_source(source, points, r->order + 1);
+    say_source(source, points);
 }
 
 int main(int argc, char **argv)
@@ -221,11 +228,11 @@ int main(int argc, char **argv)
     size_t work_len = work_of(&r, lengths);
     double *work = work_len > 0 ? coefficients_of(&r, lengths, voxels) : NULL;
     struct answer answer = answer_of(&r, lengths, voxels, work, work_len);
-    struct source source = source_of(lengths, voxels, work, work_len);
+    struct source source = source_of(&r, lengths, voxels, work, work_len);
 
     say_voxel(&r, lengths, &answer);
     for (size_t axis = 0; axis < 3; axis++)
-        say_axis(&r, axis, source.pad, &answer.points[axis]);
+        say_axis(&r, &source, axis, &answer.points[axis]);
     say_rule(&r, &source, answer.points);
     return finish();
 }

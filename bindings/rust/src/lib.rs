@@ -29,6 +29,35 @@
 //! assert_eq!(sum / moved.counts.computed as f64, 20.0);
 //! # Ok::<(), vurelika::Refusal>(())
 //! ```
+//!
+//! # Single slices
+//!
+//! An axis may have length 1: a radiograph is a volume of 1 by rows by columns, and a single lane and a single
+//! voxel are volumes too. Such an axis takes the shift 0.0 or -0.0, or a zoom that leaves it 1, whose factor is
+//! above 0.5 and below 1.5; else the call is refused as [`Refusal::Slice`]. It is not filtered, not padded and not
+//! folded, whatever the mode and order: its one voxel enters with a single weight of exactly 1. So it drops no
+//! voxel, gives none the code [`FOLDED`], and never meets [`Refusal::Beside`].
+//!
+//! ```
+//! use vurelika::{shift, BorderMode, Refusal, Request, COMPUTED, FOLDED};
+//!
+//! let radiograph = [10.0, 20.0, 30.0, 40.0].repeat(3);
+//! let by = |factors| Request {
+//!     dims: [1, 3, 4],
+//!     factors,
+//!     order: 1,
+//!     prefilter: true,
+//!     mode: BorderMode::Constant(-1.0),
+//! };
+//! let half = shift(&by([0.0, 0.0, -0.5]), &radiograph)?;
+//! assert_eq!(half.dims, [1, 3, 4]);
+//! assert_eq!(half.voxels[..4], [15.0, 25.0, 35.0, 35.0]);
+//! assert_eq!(half.coverage[..4], [COMPUTED, COMPUTED, COMPUTED, FOLDED]);
+//!
+//! let across = shift(&by([0.5, 0.0, 0.0]), &radiograph);
+//! assert_eq!(across, Err(Refusal::Slice));
+//! # Ok::<(), Refusal>(())
+//! ```
 
 mod door;
 pub mod npy;
@@ -124,9 +153,10 @@ pub enum BorderMode {
 /// What is asked for.
 #[derive(Clone, Copy, Debug, PartialEq)]
 pub struct Request {
-    /// The lengths of the input's axes, each 2 to 4,096.
+    /// The lengths of the input's axes, each 1 to 4,096.
     pub dims: [usize; 3],
-    /// A shift or a zoom factor for each axis. The filters do not read them.
+    /// A shift or a zoom factor for each axis; of an axis of length 1 the shift is 0, or the factor above
+    /// 0.5 and below 1.5. The filters do not read them.
     pub factors: [f64; 3],
     /// The order of the spline, 0 (the nearest voxel) to 5.
     pub order: usize,
@@ -138,13 +168,30 @@ pub struct Request {
 
 impl Request {
     /// What [`shift_into`] has to be lent; or the refusal that it would give whatever it is lent,
-    /// one of 1 to 6.
+    /// one that comes before [`Refusal::Buffer`].
+    ///
+    /// ```
+    /// # use vurelika::{BorderMode, Refusal, Request};
+    /// let mut request = Request {
+    ///     dims: [1, 512, 512],
+    ///     factors: [0.0, 1.5, 0.0],
+    ///     order: 3,
+    ///     prefilter: true,
+    ///     mode: BorderMode::Replicate,
+    /// };
+    /// // 12 edge copies on each side, of the axes that are longer than 1
+    /// assert_eq!(request.shift_sizes()?.work, 536 * 536);
+    ///
+    /// request.factors[0] = 1.5;
+    /// assert_eq!(request.shift_sizes(), Err(Refusal::Slice));
+    /// # Ok::<(), Refusal>(())
+    /// ```
     pub fn shift_sizes(&self) -> Result<Sizes, Refusal> {
         self.sizes(Entry::Shift)
     }
 
     /// What [`zoom_into`] has to be lent; or the refusal that it would give whatever it is lent,
-    /// one of 1 to 6.
+    /// one that comes before [`Refusal::Buffer`].
     ///
     /// ```
     /// # use vurelika::{BorderMode, Refusal, Request};
@@ -159,7 +206,7 @@ impl Request {
     /// assert_eq!(sizes.dims, [2, 2, 7]);
     /// assert_eq!((sizes.input, sizes.output, sizes.work), (16, 28, 16));
     ///
-    /// request.factors[0] = 0.5;
+    /// request.factors[0] = 0.5; // no axis is zoomed down to 1
     /// assert_eq!(request.zoom_sizes(), Err(Refusal::OutputLength));
     /// # Ok::<(), Refusal>(())
     /// ```
@@ -247,16 +294,18 @@ pub struct Voxel {
 /// three neighbours is copied. Else the sum starts at 0.0 and adds voxel * (x weight * (y weight * z
 /// weight)) for all neighbours, those of axis 2 outermost and those of axis 0 innermost. The voxels are
 /// those of the input; where orders 2 to 5 prefilter, they are the coefficients in work, a volume whose
-/// axes have the input's lengths, or in Nearest and Replicate 24 more.
+/// axes have the input's lengths, or in Nearest and Replicate 24 more where they are longer than 1.
 #[derive(Clone, Copy, Debug, PartialEq)]
 pub struct Point {
     /// The coordinate as it stands once the mode has folded it, on the axis as padded: where orders 2 to 5
-    /// prefilter in Nearest and Replicate, 12 edge copies stand on each side, and 12 is added.
+    /// prefilter in Nearest and Replicate, 12 edge copies stand on each side of an axis longer than 1, and 12
+    /// is added.
     pub coordinate: f64,
-    /// The neighbours' indices, on the axis as padded and folded back into it. The first order + 1 count;
-    /// the rest are 0, and all are where the index is dropped.
+    /// The neighbours' indices, on the axis as padded and folded back into it. The first order + 1 count, of
+    /// an axis of length 1 the first alone; the rest are 0, and all are where the index is dropped.
     pub neighbours: [usize; NEIGHBOURS],
-    /// Their weights. The rest are 0.0, and all are where the index is dropped.
+    /// Their weights; of an axis of length 1 exactly 1. The rest are 0.0, and all are where the index is
+    /// dropped.
     pub weights: [f64; NEIGHBOURS],
 }
 
@@ -292,7 +341,7 @@ pub fn shift(request: &Request, input: &[f64]) -> Result<Resampled, Refusal> {
     resample(Entry::Shift, request, input)
 }
 
-/// Zooms a volume by the factors.
+/// Zooms a volume by the factors. No axis comes out with length 1 but one that has it.
 ///
 /// ```
 /// # use vurelika::{zoom, BorderMode, Request};
@@ -306,6 +355,10 @@ pub fn shift(request: &Request, input: &[f64]) -> Result<Resampled, Refusal> {
 /// let finer = zoom(&request, &[10.0, 20.0, 30.0, 40.0].repeat(4))?;
 /// assert_eq!(finer.dims, [2, 2, 7]);
 /// assert_eq!(finer.voxels[..7], [10.0, 15.0, 20.0, 25.0, 30.0, 35.0, 40.0]);
+///
+/// // a radiograph: its first axis stays 1 for factors above 0.5 and below 1.5
+/// let slice = Request { dims: [1, 2, 4], ..request };
+/// assert_eq!(zoom(&slice, &[10.0, 20.0, 30.0, 40.0].repeat(2))?.dims, [1, 2, 7]);
 /// # Ok::<(), vurelika::Refusal>(())
 /// ```
 pub fn zoom(request: &Request, input: &[f64]) -> Result<Resampled, Refusal> {
@@ -462,7 +515,7 @@ pub fn zoom_voxel(
 /// What one axis of a shift gives to one output index, so that a person can check a voxel on paper. `length`,
 /// `shift` and `index` are those of the axis.
 ///
-/// Refusals, in this order: [`Refusal::Order`], [`Refusal::Length`], [`Refusal::Factor`],
+/// Refusals, in this order: [`Refusal::Order`], [`Refusal::Length`], [`Refusal::Factor`], [`Refusal::Slice`],
 /// [`Refusal::Beside`] (at any index of this axis), [`Refusal::Index`].
 ///
 /// ```
@@ -474,6 +527,11 @@ pub fn zoom_voxel(
 /// assert_eq!(last.neighbours[..2], [3, 2]); // voxel 4 lies outside: it is mirrored
 /// assert_eq!(last.weights[..2], [0.5, 0.5]);
 /// assert_eq!(at(4), Err(Refusal::Index));
+///
+/// // an axis of length 1, at any order and in any mode
+/// let single = shift_point(1, 0.0, 5, true, BorderMode::Nearest, 0)?;
+/// assert_eq!((single.coordinate, single.neighbours), (0.0, [0; 6]));
+/// assert_eq!(single.weights, [1.0, 0.0, 0.0, 0.0, 0.0, 0.0]);
 /// # Ok::<(), Refusal>(())
 /// ```
 pub fn shift_point(
@@ -488,7 +546,7 @@ pub fn shift_point(
 }
 
 /// What one axis of a zoom gives to one output index; all else is as with [`shift_point`], but
-/// [`Refusal::OutputLength`] is given too, after [`Refusal::Factor`].
+/// [`Refusal::OutputLength`] is given too, after [`Refusal::Slice`].
 ///
 /// ```
 /// # use vurelika::{zoom_point, BorderMode};
@@ -510,6 +568,7 @@ pub fn zoom_point(
 }
 
 /// The spline coefficients of a volume, along all three axes. Orders 2 to 5; never pads, whatever the mode.
+/// Along an axis of length 1 nothing is filtered, so a single voxel is copied, bit for bit.
 ///
 /// ```
 /// # use vurelika::{spline_filter, BorderMode, Request};
@@ -539,7 +598,8 @@ pub fn spline_filter_into(
     door::spline_filter(request, input, output)
 }
 
-/// The spline coefficients of a volume along one axis: 0, 1 or 2. Orders 0 and 1 copy the input.
+/// The spline coefficients of a volume along one axis: 0, 1 or 2. Orders 0 and 1 copy the input, and so does
+/// every order along an axis of length 1, bit for bit.
 ///
 /// ```
 /// # use vurelika::{spline_filter1d, BorderMode, Refusal, Request};
@@ -552,6 +612,9 @@ pub fn spline_filter_into(
 /// };
 /// assert_eq!(spline_filter1d(&request, 2, &[7.0; 24])?, [7.0; 24]);
 /// assert_eq!(spline_filter1d(&request, 3, &[7.0; 24]), Err(Refusal::Axis));
+///
+/// let radiograph = Request { dims: [1, 2, 2], order: 5, ..request };
+/// assert_eq!(spline_filter1d(&radiograph, 0, &[1.0, 2.0, 3.0, 4.0])?, [1.0, 2.0, 3.0, 4.0]);
 /// # Ok::<(), Refusal>(())
 /// ```
 pub fn spline_filter1d(request: &Request, axis: usize, input: &[f64]) -> Result<Vec<f64>, Refusal> {

@@ -96,7 +96,8 @@ pub fn read_into(bytes: &[u8], voxels: &mut [f64]) -> Result<(), Refusal> {
 /// ```
 /// # use vurelika::{npy, Refusal};
 /// assert_eq!(npy::size([2, 3, 4]), Ok(128 + 8 * 24));
-/// assert_eq!(npy::size([2, 3, 1]), Err(Refusal::Length));
+/// assert_eq!(npy::size([1, 512, 512]), Ok(128 + 8 * 512 * 512)); // a radiograph
+/// assert_eq!(npy::size([2, 3, 0]), Err(Refusal::Length));
 /// assert_eq!(npy::size([4096; 3]), Err(Refusal::Count));
 /// ```
 pub fn size(dims: [usize; 3]) -> Result<usize, Refusal> {

@@ -14,12 +14,15 @@ pub enum Refusal {
     Order = 1,
     /// `spline_filter1d` was given an axis above 2.
     Axis = 2,
-    /// An input axis is shorter than 2 or longer than 4,096.
+    /// An input axis has length 0, or is longer than 4,096.
     Length = 3,
     /// A shift is not finite, or its size is 2^20 or more; a zoom factor is not finite, not above 0,
     /// or above 4,096.
     Factor = 4,
-    /// `zoom` would give an output axis shorter than 2 or longer than 4,096.
+    /// An axis of length 1 has a shift other than 0, or a zoom to a length other than 1: a factor of 0.5
+    /// or less, or of 1.5 or more. The filters never give it.
+    Slice = 12,
+    /// `zoom` would give an axis longer than 1 an output shorter than 2 or longer than 4,096.
     OutputLength = 5,
     /// Input, output or needed work has more than 2^27 places.
     Count = 6,
@@ -27,7 +30,8 @@ pub enum Refusal {
     Buffer = 7,
     /// The fill or a voxel is not finite, or its size exceeds 2^100.
     Value = 8,
-    /// At order 0 a coordinate is kept, but its nearest voxel lies outside. Never in Replicate.
+    /// At order 0 a coordinate is kept, but its nearest voxel lies outside. Never in Replicate, and never
+    /// of an axis of length 1.
     Beside = 9,
     /// The output index lies outside the output.
     Index = 11,
@@ -35,12 +39,13 @@ pub enum Refusal {
 
 impl Refusal {
     /// All of them, in the order in which they are looked for.
-    pub const ALL: [Refusal; 11] = [
+    pub const ALL: [Refusal; 12] = [
         Refusal::NotNpy,
         Refusal::Order,
         Refusal::Axis,
         Refusal::Length,
         Refusal::Factor,
+        Refusal::Slice,
         Refusal::OutputLength,
         Refusal::Count,
         Refusal::Buffer,
@@ -87,9 +92,14 @@ impl fmt::Display for Refusal {
             }
             Refusal::Order => "the order is not one that this function has",
             Refusal::Axis => "the axis number is above 2",
-            Refusal::Length => "an input axis is shorter than 2 or longer than 4,096",
+            Refusal::Length => "an input axis has length 0, or is longer than 4,096",
             Refusal::Factor => "a shift or a zoom factor is not finite or out of range",
-            Refusal::OutputLength => "an output axis would be shorter than 2 or longer than 4,096",
+            Refusal::Slice => {
+                "an axis of length 1 has a shift other than 0, or a zoom to a length other than 1"
+            }
+            Refusal::OutputLength => {
+                "an axis longer than 1 would come out shorter than 2 or longer than 4,096"
+            }
             Refusal::Count => "input, output or work would have more than 2^27 places",
             Refusal::Buffer => "a buffer has the wrong number of places",
             Refusal::Value => "the fill or a voxel is not finite, or its size exceeds 2^100",

@@ -1,4 +1,5 @@
-//! What the crate repeats: the names and numbers of include/vurelika.h, and the words of the launcher.
+//! What the crate repeats: the names and numbers of include/vurelika.h, and the words of the launcher; and that
+//! README has the refusals too.
 
 use vurelika::{Refusal, COMPUTED, DEFAULTED, FILLED, FOLDED};
 use vurelika_sys::{VURELIKA_CODES, VURELIKA_NEIGHBOURS};
@@ -7,6 +8,8 @@ const HEADER: &str = include_str!("../../../include/vurelika.h");
 const WORDS: &str = include_str!("../../../host/vurelika/common/refusal.c");
 const MODE_WORDS: &str = include_str!("../../../host/vurelika/common/request.c");
 const HELP: &str = include_str!("../../../host/vurelika/shift.c");
+const LAUNCHER: &str = include_str!("../../../vurelika");
+const README: &str = include_str!("../../../README.md");
 
 /// The modes, in the order of their numbers.
 const MODES: [&str; 6] = [
@@ -103,4 +106,20 @@ fn words() {
         (name(refusal), meaning.unwrap_or(&said).to_string())
     });
     assert_eq!(meanings, expected);
+}
+
+/// A refusal's number is the launcher's status, and README's table has each in the order of the checks.
+#[test]
+fn refusals_elsewhere() {
+    let numbers = Refusal::ALL.map(Refusal::number);
+    let statuses = format!("1 to {} a refusal", numbers.iter().max().unwrap());
+    assert!(LAUNCHER.contains(&statuses), "vurelika has no {statuses}");
+
+    let (_, table) = README.split_once("| Refusal |").expect("the table");
+    let rows = table.lines().skip(2).map_while(|l| l.strip_prefix("| "));
+    let listed: Vec<u32> = rows
+        .map(|row| row.split(' ').next().unwrap_or_default().parse())
+        .collect::<Result<_, _>>()
+        .expect("a number in each row");
+    assert_eq!(listed, numbers);
 }

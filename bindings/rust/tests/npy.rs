@@ -85,9 +85,31 @@ fn a_nan() -> Result<(), Refusal> {
     Ok(())
 }
 
+/// Radiographs, lanes and single voxels are volumes too.
+#[test]
+fn single_slices() -> Result<(), Refusal> {
+    for dims in [
+        [1, 4, 6],
+        [4, 1, 6],
+        [24, 1, 1],
+        [1, 24, 1],
+        [1, 1, 24],
+        [1; 3],
+    ] {
+        let words = &words()[..dims.iter().product()];
+        let voxels = words.iter().map(|&word| f64::from_bits(word)).collect();
+        let bytes = npy::write(&Volume { dims, voxels })?;
+        assert_eq!(bytes.len(), HEADER + 8 * words.len());
+        let read = npy::read(&bytes)?;
+        assert_eq!((read.dims, bits(&read.voxels)), (dims, words.to_vec()));
+    }
+    assert_eq!(npy::size([1, 4096, 4096]), Ok(HEADER + (8 << 24)));
+    Ok(())
+}
+
 #[test]
 fn the_header() -> Result<(), Refusal> {
-    for dims in [DIMS, [2, 2, 4096], [2, 100, 10]] {
+    for dims in [DIMS, [2, 2, 4096], [2, 100, 10], [1, 512, 1]] {
         let [a, b, c] = dims;
         let text =
             format!("{{'descr': '<f8', 'fortran_order': False, 'shape': ({a}, {b}, {c}), }}");
@@ -124,7 +146,7 @@ fn not_npy() -> Result<(), Refusal> {
 /// Lengths that no resampler takes: the file is well formed, and says what they are.
 #[test]
 fn length() {
-    for bad in [[1, 2, 2], [2, 0, 2], [2, 2, 4097]] {
+    for bad in [[0, 2, 2], [1, 0, 1], [2, 2, 4097]] {
         let bytes = file_of(bad);
         let mut voxels = vec![PAINT; bad.iter().product()];
         assert_eq!(npy::dims(&bytes), Ok(bad));

@@ -19,13 +19,15 @@ type Volume = fn(&Request, &[f64], &mut [f64], &mut [u8], &mut [f64]) -> Result<
 type OneVoxel = fn(&Request, &[f64], &[f64], [usize; 3]) -> Result<Voxel, Refusal>;
 type OnePoint = fn(usize, f64, usize, bool, BorderMode, usize) -> Result<Point, Refusal>;
 
-/// Shift or zoom, with factors that drop, fold and keep voxels, or make more of them.
+/// Shift or zoom, with factors that drop, fold and keep voxels, or make more of them, and one that an axis of
+/// length 1 takes.
 struct Entry {
     volume: Volume,
     voxel: OneVoxel,
     point: OnePoint,
     sizes: fn(&Request) -> Result<Sizes, Refusal>,
     factors: [f64; 3],
+    single: f64,
 }
 
 /// What the volume's call leaves.
@@ -67,6 +69,7 @@ const SHIFT: Entry = Entry {
     point: shift_point,
     sizes: Request::shift_sizes,
     factors: [-0.75, 1.0, 2.5],
+    single: -0.0,
 };
 const ZOOM: Entry = Entry {
     volume: zoom_into,
@@ -74,21 +77,26 @@ const ZOOM: Entry = Entry {
     point: zoom_point,
     sizes: Request::zoom_sizes,
     factors: [1.5, 1.0, 1.75],
+    single: 1.25,
 };
 
 const DIMS: [usize; 3] = [2, 3, 4];
 const VOXELS: usize = 24;
 
+/// A volume, radiographs, lanes and a single voxel.
+const SHAPES: [[usize; 3]; 6] = [DIMS, [1, 3, 4], [2, 1, 4], [2, 3, 1], [1, 1, 4], [1; 3]];
+
+/// Numbers for the largest of them.
 fn input() -> Vec<f64> {
     (0..VOXELS).map(|i| (i * i) as f64 - 100.25).collect()
 }
 
 /// Each mode, order and flag.
-fn requests(factors: [f64; 3]) -> impl Iterator<Item = Request> {
+fn requests(dims: [usize; 3], factors: [f64; 3]) -> impl Iterator<Item = Request> {
     MODES.into_iter().flat_map(move |mode| {
         (0..=5).flat_map(move |order| {
             [false, true].map(|prefilter| Request {
-                dims: DIMS,
+                dims,
                 factors,
                 order,
                 prefilter,
@@ -109,8 +117,11 @@ fn by_hand(r: &Request, data: &[f64], [x, y, z]: [Point; 3]) -> f64 {
         BorderMode::Constant(fill) => fill,
         _ => 0.0,
     };
-    let padded = data.len() > VOXELS;
-    let [_, b, c] = DIMS.map(|length| if padded { length + 24 } else { length });
+    let padded = data.len() > r.dims.iter().product();
+    let [_, b, c] = r.dims.map(|length| match length {
+        2.. if padded => length + 24,
+        _ => length,
+    });
     let read = |i: usize, j: usize, k: usize| {
         data[(x.neighbours[i] * b + y.neighbours[j]) * c + z.neighbours[k]]
     };
@@ -135,22 +146,30 @@ fn by_hand(r: &Request, data: &[f64], [x, y, z]: [Point; 3]) -> f64 {
 #[test]
 fn every_voxel() {
     let input = input();
-    for entry in [SHIFT, ZOOM] {
-        for r in requests(entry.factors) {
-            let left = match entry.resampled(&r, &input) {
+    for (entry, dims) in [SHIFT, ZOOM]
+        .iter()
+        .flat_map(|entry| SHAPES.map(|dims| (entry, dims)))
+    {
+        let input = &input[..dims.iter().product()];
+        let factors = [0, 1, 2].map(|axis| match dims[axis] {
+            1 => entry.single,
+            _ => entry.factors[axis],
+        });
+        for r in requests(dims, factors) {
+            let left = match entry.resampled(&r, input) {
                 Ok(left) => left,
                 Err(refusal) => {
-                    assert_eq!((entry.voxel)(&r, &input, &[], [0; 3]), Err(refusal));
+                    assert_eq!((entry.voxel)(&r, input, &[], [0; 3]), Err(refusal));
                     continue;
                 }
             };
             let data = if left.work.is_empty() {
-                &input
+                input
             } else {
                 &left.work
             };
             for (place, at) in places(left.dims) {
-                let one = (entry.voxel)(&r, &input, &left.work, at).expect("one of the volume");
+                let one = (entry.voxel)(&r, input, &left.work, at).expect("one of the volume");
                 assert_eq!(one.value.to_bits(), left.output[place].to_bits(), "{r:?}");
                 assert_eq!(one.code, left.coverage[place], "{r:?}");
                 let points = [0, 1, 2].map(|axis| entry.point_of(&r, axis, at[axis]));
@@ -164,7 +183,7 @@ fn every_voxel() {
 #[test]
 fn any_coefficients() -> Result<(), Refusal> {
     let input = input();
-    for r in requests(ZOOM.factors).filter(|r| r.prefilter && r.order > 1) {
+    for r in requests(DIMS, ZOOM.factors).filter(|r| r.prefilter && r.order > 1) {
         let still = Request {
             factors: [0.0; 3],
             ..r
@@ -218,16 +237,22 @@ fn refusals() {
         assert_eq!(asked(&r, &input, far), Err(Refusal::Index));
         let six = Request { order: 6, ..r };
         assert_eq!(asked(&six, &input, far), Err(Refusal::Order));
-        let thin = Request {
-            dims: [2, 1, 4],
+        let empty = Request {
+            dims: [2, 0, 4],
             ..r
         };
-        assert_eq!(asked(&thin, &input, far), Err(Refusal::Length));
+        assert_eq!(asked(&empty, &input, far), Err(Refusal::Length));
         let infinite = Request {
             factors: [1.0, f64::INFINITY, 1.0],
             ..r
         };
         assert_eq!(asked(&infinite, &input, far), Err(Refusal::Factor));
+        let thin = Request {
+            dims: [2, 1, 4],
+            factors: [1.0, 1.5, 1.0],
+            ..r
+        };
+        assert_eq!(asked(&thin, &input, far), Err(Refusal::Slice));
         assert_eq!(asked(&r, &input[1..], far), Err(Refusal::Buffer));
         assert_eq!(asked(&r, &[f64::NAN; VOXELS], far), Err(Refusal::Value));
     }
@@ -254,11 +279,19 @@ fn refusals_of_an_axis() {
         assert!(point(4, 1.0, 5, true, mode, 3).is_ok());
         assert_eq!(point(4, 1.0, 5, true, mode, 4), Err(Refusal::Index));
         assert_eq!(point(1, f64::NAN, 6, true, mode, far), Err(Refusal::Order));
-        for length in [0, 1, 4097] {
+        for length in [0, 4097] {
             let answer = point(length, f64::NAN, 5, true, mode, far);
             assert_eq!(answer, Err(Refusal::Length));
         }
-        assert_eq!(point(4, f64::NAN, 0, true, mode, far), Err(Refusal::Factor));
+        for length in [1, 4] {
+            let answer = point(length, f64::NAN, 0, true, mode, far);
+            assert_eq!(answer, Err(Refusal::Factor));
+        }
+        assert_eq!(point(1, 1.5, 0, true, mode, far), Err(Refusal::Slice));
+    }
+    for far in [1, far] {
+        let single = shift_point(1, 0.0, 0, true, mode, far);
+        assert_eq!(single, Err(Refusal::Index));
     }
     let short = zoom_point(4, 0.25, 0, true, mode, far);
     assert_eq!(short, Err(Refusal::OutputLength));

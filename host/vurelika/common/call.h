@@ -5,7 +5,7 @@
 #include "request.h"
 #include "vurelika.h"
 
-/* What is lent to a call; all empty, the answer is one of the refusals 1 to 6, or VURELIKA_BUFFER. */
+/* What is lent to a call; all empty, the answer is VURELIKA_BUFFER, or a refusal that comes before it. */
 struct lent {
     const double *input;
     size_t input_len;
@@ -40,7 +40,7 @@ void output_lengths(const struct request *r, const size_t lengths[3], size_t out
 /* The places of work that the request needs. */
 size_t work_of(const struct request *r, const size_t lengths[3]);
 
-/* The first axis that meets the refusal by itself. The refusal must be one that an axis meets: 4, 5, 9 or 11. */
+/* The first axis that meets the refusal by itself, which must be one that an axis meets: 4, 12, 5, 9 or 11. */
 size_t refused_axis(const struct request *r, const size_t lengths[3], uint32_t refusal);
 
 #endif

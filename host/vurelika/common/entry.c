@@ -16,6 +16,7 @@ const struct entry shift_entry = {
     .option = "--shift",
     .factor = "shift",
     .taken = "finite and of a size below 2^20",
+    .single = "0",
 };
 
 const struct entry zoom_entry = {
@@ -26,4 +27,5 @@ const struct entry zoom_entry = {
     .option = "--zoom",
     .factor = "factor",
     .taken = "above 0 and up to 4,096",
+    .single = "above 0.5 and below 1.5, so that 1 voxel comes out",
 };

@@ -21,6 +21,7 @@ struct entry {
     const char *option; /* which has the factors */
     const char *factor; /* what one is called */
     const char *taken;  /* which are taken */
+    const char *single; /* which of an axis of one voxel */
 };
 
 extern const struct entry shift_entry, zoom_entry;

@@ -14,11 +14,13 @@ const char *refusal_meaning(uint32_t number)
     case VURELIKA_AXIS:
         return "the axis number is above 2";
     case VURELIKA_LENGTH:
-        return "an input axis is shorter than 2 or longer than 4,096";
+        return "an input axis has length 0, or is longer than 4,096";
     case VURELIKA_FACTOR:
         return "a shift or a zoom factor is not finite or out of range";
+    case VURELIKA_SLICE:
+        return "an axis of length 1 has a shift other than 0, or a zoom to a length other than 1";
     case VURELIKA_OUTPUT_LENGTH:
-        return "an output axis would be shorter than 2 or longer than 4,096";
+        return "an axis longer than 1 would come out shorter than 2 or longer than 4,096";
     case VURELIKA_COUNT:
         return "input, output or work would have more than 2^27 places";
     case VURELIKA_BUFFER:

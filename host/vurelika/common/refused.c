@@ -16,9 +16,9 @@ void refuse_lengths(const char *path, const size_t lengths[3])
 {
     size_t axis = 0;
 
-    while (axis < 2 && vurelika_npy_size(lengths[axis], 2, 2) != 0)
+    while (axis < 2 && vurelika_npy_size(lengths[axis], 1, 1) != 0)
         axis++;
-    refuse(VURELIKA_LENGTH, "axis %zu of %s has %zu voxels; 2 to 4,096 are taken", axis, path, lengths[axis]);
+    refuse(VURELIKA_LENGTH, "axis %zu of %s has %zu voxels; 1 to 4,096 are taken", axis, path, lengths[axis]);
 }
 
 void refuse_count(const char *name, size_t places)
@@ -47,9 +47,13 @@ static _Noreturn void refuse_axis(const struct request *r, const size_t lengths[
     if (refusal == VURELIKA_FACTOR)
         refuse(refusal, "the %s of axis %zu is %s; it must be %s", r->entry->factor, axis, factor.text,
                r->entry->taken);
+    if (refusal == VURELIKA_SLICE)
+        refuse(refusal, "axis %zu of %s has 1 voxel and the %s %s; of such an axis it must be %s", axis, r->input,
+               r->entry->factor, factor.text, r->entry->single);
     if (refusal == VURELIKA_OUTPUT_LENGTH)
-        refuse(refusal, "axis %zu would have %zu times %s = %s voxels, rounded; 2 to 4,096 are taken", axis,
-               length, factor.text, number((double)length * r->factors[axis]).text);
+        refuse(refusal,
+               "axis %zu would have %zu times %s = %s voxels, rounded; an axis longer than 1 must have 2 to 4,096",
+               axis, length, factor.text, number((double)length * r->factors[axis]).text);
     refuse(refusal,
            "axis %zu has %zu voxels and the %s %s: at order 0 a coordinate is kept, but its nearest voxel "
            "lies outside",
@@ -74,9 +78,13 @@ static _Noreturn void refuse_index(const struct request *r, const size_t lengths
     size_t axis = refused_axis(r, lengths, VURELIKA_INDEX), out[3];
     const char *word = r->at_word[axis];
 
+    int digits = (int)strcspn(word, ",");
+
     output_lengths(r, lengths, out);
-    refuse(VURELIKA_INDEX, "the index of axis %zu is %.*s; the output has %zu voxels there, 0 to %zu", axis,
-           (int)strcspn(word, ","), word, out[axis], out[axis] - 1);
+    if (out[axis] == 1)
+        refuse(VURELIKA_INDEX, "the index of axis %zu is %.*s; the output has 1 voxel there, 0", axis, digits, word);
+    refuse(VURELIKA_INDEX, "the index of axis %zu is %.*s; the output has %zu voxels there, 0 to %zu", axis, digits,
+           word, out[axis], out[axis] - 1);
 }
 
 void refuse_request(const struct request *r, const size_t lengths[3], const double *voxels, uint32_t refusal)
@@ -87,6 +95,7 @@ void refuse_request(const struct request *r, const size_t lengths[3], const doub
     case VURELIKA_LENGTH:
         refuse_lengths(r->input, lengths);
     case VURELIKA_FACTOR:
+    case VURELIKA_SLICE:
     case VURELIKA_OUTPUT_LENGTH:
     case VURELIKA_BESIDE:
         refuse_axis(r, lengths, refusal);
