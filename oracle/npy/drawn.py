@@ -20,7 +20,7 @@ MOST_VOXELS = 4096
 
 def good_signs(draw):
     """The signs of a header that is taken, with some spacing between them."""
-    a, b, c = draw.choices(NUMBERS[2:], k=3)
+    a, b, c = draw.choices(NUMBERS[1:], k=3)
     entries = [
         [quoted(draw, "descr"), ":", quoted(draw, "<f8")],
         [quoted(draw, "fortran_order"), ":", "False"],

@@ -84,7 +84,7 @@ def read_status(file, places):
     dims = dims_of(file)
     if dims is None:
         return NOT_NPY
-    if not all(2 <= length <= 4096 for length in dims):
+    if not all(1 <= length <= 4096 for length in dims):
         return LENGTH
     if math.prod(dims) > 2**27:
         return COUNT

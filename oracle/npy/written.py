@@ -21,7 +21,7 @@ def written():
     files = {f"{a}x{b}x{c}": (saved(shaped(a, b, c)), DONE) for a, b, c in SHAPES}
     volume = np.arange(24.0).reshape(2, 3, 4)
     files["strided"] = saved(volume[:, ::-1]), DONE
-    files["one_voxel_thin"] = saved(shaped(1, 3, 4)), LENGTH
+    files["one_voxel_thin"] = saved(shaped(1, 3, 4)), DONE
     files["empty"] = saved(shaped(2, 0, 4)), LENGTH
     refused = {
         "axes_1": shaped(24),

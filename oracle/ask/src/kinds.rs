@@ -1,10 +1,10 @@
 //! The kinds of requests: what each reads from its line, and what it asks of the Rust.
 
-use ndarray::{Array3, Axis};
+use ndarray::Array3;
 use ndarray_ndimage::probe::{self, Axes, Point};
-use ndarray_ndimage::{pad, spline_filter, spline_filter1d, BorderMode, PadMode};
-use requests::document::answer_alone;
-use requests::request::{Alone, Asked, Entry, Lengths, Request};
+use ndarray_ndimage::{pad, BorderMode, PadMode};
+use requests::document;
+use requests::request::{Alone, Asked, Entry, Request};
 use requests::theirs::{self, Theirs};
 use shared::rust;
 
@@ -33,13 +33,13 @@ pub fn answer(line: &str, style: Style) -> Result<String, String> {
 
 fn read(kind: &str, fields: &mut Fields) -> Result<Question, String> {
     match kind {
-        "shift" => resample(fields, Entry::Shift),
-        "zoom" => resample(fields, Entry::Zoom),
+        "shift" => whole_call(fields, Entry::Shift),
+        "zoom" => whole_call(fields, Entry::Zoom),
         "shift_voxel" => one_voxel(fields, Entry::Shift),
         "zoom_voxel" => one_voxel(fields, Entry::Zoom),
         "zoom_length" => zoom_length(fields),
-        "spline_filter" => filter_all_axes(fields),
-        "spline_filter1d" => filter_one_axis(fields),
+        "spline_filter" => whole_call(fields, Entry::SplineFilter),
+        "spline_filter1d" => whole_call(fields, Entry::SplineFilter1d),
         "coefficients" => coefficients(fields),
         "pad" => edge_pad(fields),
         "lane" => lane(fields),
@@ -63,60 +63,71 @@ fn read_flat(fields: &mut Fields) -> Result<([usize; 3], Vec<f64>), String> {
     Ok((dims, values))
 }
 
-fn read_volume(fields: &mut Fields) -> Result<Array3<f64>, String> {
-    let (dims, values) = read_flat(fields)?;
-    Ok(Array3::from_shape_vec(dims, values).expect("one value for each voxel"))
-}
-
-/// What is asked of `shift` or `zoom`, and of which volume.
+/// A volume, and of what is asked of an entry that which all of them have.
 fn read_asked(fields: &mut Fields, entry: Entry) -> Result<(Asked, Vec<f64>), String> {
     let (dims, input) = read_flat(fields)?;
     let (mode, fill) = fields.mode_and_fill()?;
     let asked = Asked {
         entry,
         dims,
-        factors: fields.three_floats("factors")?,
+        factors: [0.0; 3],
         order: fields.whole("order")?,
         axis: 0,
-        prefilter: fields.flag("prefilter")?.into(),
+        prefilter: 0,
         mode,
         fill,
     };
     Ok((asked, input))
 }
 
-/// `shift` or `zoom`, with the codes that its axes' tables give.
-fn resample(fields: &mut Fields, entry: Entry) -> Result<Question, String> {
-    let (asked, input) = read_asked(fields, entry)?;
+fn read_request(fields: &mut Fields, entry: Entry) -> Result<Request, String> {
+    let (mut asked, input) = read_asked(fields, entry)?;
+    if entry.resamples() {
+        asked.factors = fields.three_floats("factors")?;
+        asked.prefilter = fields.flag("prefilter")?.into();
+    }
+    if entry == Entry::SplineFilter1d {
+        asked.axis = fields.whole("axis")?;
+    }
+    Ok(Request {
+        lengths: asked.lengths(),
+        asked,
+        input,
+    })
+}
+
+/// An entry, with the codes that its axes' tables give. Where an axis has length 1 the Rust is not asked, and a
+/// refusal has its number.
+fn whole_call(fields: &mut Fields, entry: Entry) -> Result<Question, String> {
+    let request = read_request(fields, entry)?;
     Ok(Box::new(move |answer| {
-        let theirs = theirs::call(&asked, &input);
-        write_resampled(answer, &theirs.expect("no panic in the Rust"));
+        let Request { asked, input, .. } = &request;
+        match document::answer(&request) {
+            refusal @ 1.. if asked.has_single() => write_refusal(answer, refusal),
+            _ => write_left(
+                answer,
+                &theirs::call(asked, input).expect("no panic in the Rust"),
+            ),
+        }
     }))
 }
 
 /// One voxel of `shift` or `zoom`: of the Rust's volume, or by its tables over the numbers of `work`; or the
 /// refusal that documents 01 and 02 give it.
 fn one_voxel(fields: &mut Fields, entry: Entry) -> Result<Question, String> {
-    let (asked, input) = read_asked(fields, entry)?;
+    let request = read_request(fields, entry)?;
     let alone = Alone::at(fields.three_wholes("at")?);
-    let work = voxels::read_work(fields, asked.needed())?;
-    let lengths = Lengths {
-        output: 0,
-        coverage: 0,
-        work: asked.needed(),
-        counts: 0,
-    };
-    let request = Request {
-        asked,
-        input,
-        lengths,
-    };
+    let work = voxels::read_work(fields, request.asked.needed())?;
     Ok(Box::new(move |answer| {
-        match answer_alone(&request, &alone) {
+        match document::answer_alone(&request, &alone) {
             0 => write_voxel(answer, voxel(&request, alone.at, work.as_deref())),
-            refusal => answer.word("refusal").word(refusal),
-        };
+            refusal => write_refusal(answer, refusal),
+        }
     }))
+}
+
+fn write_refusal(answer: &mut Answer, refusal: u32) {
+    answer.word("refusal").word(refusal);
 }
 
 fn voxel(request: &Request, at: [usize; 3], work: Option<&[f64]>) -> (f64, u8) {
@@ -127,19 +138,19 @@ fn voxel(request: &Request, at: [usize; 3], work: Option<&[f64]>) -> (f64, u8) {
     voxel.expect("no panic in the Rust")
 }
 
-fn write_voxel(answer: &mut Answer, (value, code): (f64, u8)) -> &mut Answer {
-    answer
-        .word("code")
-        .word(code)
-        .word("value")
-        .floats(&[value])
+fn write_voxel(answer: &mut Answer, (value, code): (f64, u8)) {
+    answer.word("code").word(code);
+    answer.word("value").floats(&[value]);
 }
 
-fn write_resampled(answer: &mut Answer, theirs: &Theirs) {
-    let count_of = |code| theirs.codes.iter().filter(|c| **c == code).count();
-    answer.word("dims").wholes(&theirs.dims);
-    answer.word("counts").wholes(&[0, 1, 2, 3].map(count_of));
-    write_codes(answer, &theirs.codes);
+/// Of a filter there are no codes.
+fn write_left(answer: &mut Answer, theirs: &Theirs) {
+    if !theirs.codes.is_empty() {
+        let count_of = |code| theirs.codes.iter().filter(|c| **c == code).count();
+        answer.word("dims").wholes(&theirs.dims);
+        answer.word("counts").wholes(&[0, 1, 2, 3].map(count_of));
+        write_codes(answer, &theirs.codes);
+    }
     answer.word("values").floats(&theirs.values);
 }
 
@@ -149,12 +160,8 @@ fn write_codes(answer: &mut Answer, codes: &[u8]) {
 }
 
 fn write_volume(answer: &mut Answer, out: &Array3<f64>) {
-    answer.word("dims").wholes(out.shape());
-    write_values(answer, out);
-}
-
-fn write_values(answer: &mut Answer, out: &Array3<f64>) {
     let values = out.as_slice().expect("the Rust keeps the input's layout");
+    answer.word("dims").wholes(out.shape());
     answer.word("values").floats(values);
 }
 
@@ -167,40 +174,20 @@ fn zoom_length(fields: &mut Fields) -> Result<Question, String> {
     }))
 }
 
-fn filter_all_axes(fields: &mut Fields) -> Result<Question, String> {
-    let data = read_volume(fields)?;
-    let order = fields.whole("order")?;
-    let mode = fields.mode()?.rusts();
-    Ok(Box::new(move |answer| {
-        write_values(answer, &spline_filter(&data, order, mode));
-    }))
-}
-
-fn filter_one_axis(fields: &mut Fields) -> Result<Question, String> {
-    let data = read_volume(fields)?;
-    let axis = Axis(fields.whole("axis")?);
-    let order = fields.whole("order")?;
-    let mode = fields.mode()?.rusts();
-    Ok(Box::new(move |answer| {
-        write_values(answer, &spline_filter1d(&data, order, mode, axis));
-    }))
-}
-
 fn coefficients(fields: &mut Fields) -> Result<Question, String> {
-    let data = read_volume(fields)?;
-    let order = fields.whole("order")?;
-    let mode = fields.mode()?.rusts();
-    let prefilter = fields.flag("prefilter")?;
+    let (mut asked, input) = read_asked(fields, Entry::Shift)?;
+    asked.prefilter = fields.flag("prefilter")?.into();
     Ok(Box::new(move |answer| {
-        let coefficients = probe::coefficients(&data, order, mode, prefilter);
-        write_volume(answer, &coefficients);
+        let source = theirs::source(&asked, &input);
+        write_volume(answer, &source.expect("no panic in the Rust"));
     }))
 }
 
 fn edge_pad(fields: &mut Fields) -> Result<Question, String> {
-    let data = read_volume(fields)?;
+    let (dims, input) = read_flat(fields)?;
     let width = fields.whole("width")?;
     Ok(Box::new(move |answer| {
+        let data = theirs::volume(dims, &input);
         write_volume(answer, &pad(&data, &[[width, width]], PadMode::Edge));
     }))
 }

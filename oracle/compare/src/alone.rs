@@ -82,7 +82,8 @@ fn misfit(seeded: &mut Seeded, lengths: [usize; 3]) -> Alone {
     }
 }
 
-/// A number that no filter need have left.
+/// A number that no filter need have left. All are finite: over such an axis of length 1 has the bits of its one
+/// weight 1, whether or not weights of 0 stand behind it.
 fn coefficient(seeded: &mut Seeded) -> f64 {
     match seeded.below(8) {
         0 => seeded.pick(&[0.0, -0.0, 1e300, -1e300, 5e-324]),
@@ -115,8 +116,7 @@ impl<L: Library> Asking<'_, L> {
         if let Some(difference) = ours.difference(theirs) {
             return Err(format!("{alone:?}: {difference}"));
         }
-        self.tally
-            .add_alone(request.asked.entry, ours, whole.is_some());
+        self.tally.add_alone(&request.asked, ours, whole.is_some());
         Ok(())
     }
 

@@ -10,6 +10,15 @@ use shared::Seeded;
 const CUT_OFFS: [usize; 6] = [7, 10, 19, 25, 33, 40];
 
 pub fn plan(seed: u64, number: u64) -> Plan {
+    drawn(seed, number, admitted)
+}
+
+/// With one, two or three axes of length 1.
+pub fn thin(seed: u64, number: u64) -> Plan {
+    drawn(seed, number, admitted_thin)
+}
+
+fn drawn(seed: u64, number: u64, admitted: fn(&mut Seeded) -> Plan) -> Plan {
     let mut seeded = Seeded::new(Seeded::new(seed).bits() ^ number);
     let mut plan = admitted(&mut seeded);
     if seeded.once_in(4) {
@@ -58,6 +67,34 @@ fn admitted(seeded: &mut Seeded) -> Plan {
             work: seeded.pick(&[0, 0, 1, 9]),
             ..Off::default()
         },
+    }
+}
+
+/// The same, but that some axes have length 1; once in eight times such an axis is moved.
+fn admitted_thin(seeded: &mut Seeded) -> Plan {
+    let mut plan = admitted(seeded);
+    let asked = &mut plan.asked;
+    let which = 1 + seeded.below(7);
+    for axis in (0..3).filter(|axis| which >> axis & 1 == 1) {
+        asked.dims[axis] = 1;
+        asked.factors[axis] = match asked.entry {
+            _ if seeded.once_in(8) => seeded.pick(&MOVING),
+            Entry::Zoom => still_zoom(seeded),
+            _ => seeded.pick(&[0.0, -0.0]),
+        };
+    }
+    plan
+}
+
+/// Factors that move an axis of length 1, or as zooms give it another length.
+const MOVING: [f64; 8] = [5e-324, -5e-324, 0.25, 0.5, 1.5, 2.0, 1e-9, 4096.0];
+
+/// One that leaves an axis its length 1.
+fn still_zoom(seeded: &mut Seeded) -> f64 {
+    match seeded.below(4) {
+        0 => seeded.pick(&[0.5f64.next_up(), 1.5f64.next_down()]),
+        1 => 1.0,
+        _ => seeded.between(0.5f64.next_up(), 1.5f64.next_down()),
     }
 }
 

@@ -1,7 +1,8 @@
 //! Faults planted in an outcome of the library, each of which must be noticed.
 
+use ndarray_ndimage::probe::gain;
 use requests::alone::{self, Left};
-use requests::document::OUTSIDE;
+use requests::document::{MOVED_SINGLE, OUTSIDE};
 use requests::expected;
 use requests::lent::GUARD;
 use requests::outcome::Outcome;
@@ -102,6 +103,44 @@ const IN_THREE_COUNTS: [Fault; 2] = [
     ("three counts written", |o| o.lent.counts.lent_mut().fill(0)),
 ];
 
+/// 1 by 2 by 4 voxels moved in Nearest, the first axis by -0.0.
+const IN_THIN_VOLUME: [Fault; 2] = [
+    ("12 for -0.0", |o| o.status = MOVED_SINGLE),
+    ("24 places more on an axis of length 1", |o| {
+        o.work_count *= 25
+    }),
+];
+
+/// One lane of 4, whose ends alone bear 3.
+const IN_LANE_ALONE: [Fault; 1] = [("code 3 by an axis of length 1", |o| recode(o, 0, 3))];
+
+/// A filter along an axis of length 1.
+const IN_LANES_OF_ONE: [Fault; 1] = [("the gain on a lane of one", |o| {
+    for place in o.lent.output.lent_mut() {
+        *place = (f64::from_bits(*place) * gain(3)).to_bits();
+    }
+})];
+
+/// A zoom of 1 by 2 by 4 voxels by 0.5, 0.5 and 1, and one by 0.5, 1 and 0.
+const IN_12_AND_5: [Fault; 1] = [("5 before 12", |o| o.status = 5)];
+const IN_4_AND_12: [Fault; 1] = [("12 before 4", |o| o.status = MOVED_SINGLE)];
+
+/// One by 1.5, 1 and 1.
+const IN_12: [Fault; 2] = [
+    ("factor 1.5 taken", |o| o.status = 0),
+    ("a length of 2 for one voxel", |o| o.zoom_lengths[0] = 2),
+];
+
+/// One by 1, 0.5 and 1.
+const IN_5: [Fault; 2] = [
+    ("a longer axis zoomed to 1", |o| o.status = 0),
+    ("a length of 1 for two voxels", |o| o.zoom_lengths[1] = 1),
+];
+
+/// A shift of 1 by 2 by 4 voxels by the least number, and one of 0 by 2 by 4.
+const IN_LEAST_SHIFT: [Fault; 1] = [("the least shift taken", |o| o.status = 0)];
+const IN_NO_LENGTH: [Fault; 1] = [("length 0 taken", |o| o.status = 0)];
+
 /// The last voxel of `kept`, asked for alone.
 const LAST: [usize; 3] = [1, 2, 3];
 
@@ -194,6 +233,18 @@ fn kept() -> Plan {
     kept
 }
 
+/// 1 by 2 by 4 voxels; Nearest.
+fn thin(entry: Entry, factors: [f64; 3]) -> Plan {
+    let asked = Asked {
+        dims: [1, 2, 4],
+        factors,
+        axis: 0,
+        mode: NEAREST,
+        ..sound(entry).asked
+    };
+    Plan::of(asked, 1)
+}
+
 /// How many faults were planted; or the first that was not noticed.
 pub fn all_noticed() -> Result<usize, String> {
     let mut success = sound(Entry::Shift);
@@ -204,7 +255,11 @@ pub fn all_noticed() -> Result<usize, String> {
     three_counts.off.counts = -1;
     let mut order_0 = of_three_codes(REPLICATE);
     order_0.asked.order = 0;
-    let planted: [(Plan, u32, &[Fault]); 7] = [
+    let mut lane = thin(Entry::Shift, [0.0; 3]);
+    (lane.asked.dims, lane.asked.order) = ([1, 1, 4], 2);
+    let mut no_length = lane;
+    no_length.asked.dims[0] = 0;
+    let planted: [(Plan, u32, &[Fault]); 16] = [
         (success, 0, &IN_SUCCESS),
         (of_three_codes(CONSTANT), 0, &IN_CODES_OF_CONSTANT),
         (of_three_codes(NEAREST), 0, &IN_CODES_OF_NEAREST),
@@ -212,6 +267,15 @@ pub fn all_noticed() -> Result<usize, String> {
         (order_0, 0, &IN_REPLICATE_AT_ORDER_0),
         (refusal, 7, &IN_REFUSAL),
         (three_counts, 7, &IN_THREE_COUNTS),
+        (thin(Entry::Shift, [-0.0, 0.5, 1.5]), 0, &IN_THIN_VOLUME),
+        (lane, 0, &IN_LANE_ALONE),
+        (thin(Entry::SplineFilter1d, [0.0; 3]), 0, &IN_LANES_OF_ONE),
+        (thin(Entry::Zoom, [0.5, 0.5, 1.0]), 12, &IN_12_AND_5),
+        (thin(Entry::Zoom, [0.5, 1.0, 0.0]), 4, &IN_4_AND_12),
+        (thin(Entry::Zoom, [1.5, 1.0, 1.0]), 12, &IN_12),
+        (thin(Entry::Zoom, [1.0, 0.5, 1.0]), 5, &IN_5),
+        (thin(Entry::Shift, [5e-324, 0.0, 0.0]), 12, &IN_LEAST_SHIFT),
+        (no_length, 3, &IN_NO_LENGTH),
     ];
     for (plan, answer, faults) in &planted {
         noticed(plan, *answer, faults)?;

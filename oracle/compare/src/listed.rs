@@ -1,9 +1,10 @@
 //! Requests that are always put: every entry, mode and order; the prefilter's cut-offs; the edges of
-//! the folds; coordinates that Replicate clamps; weights about 0; zooms that round from a tie; the longest
-//! axes; each limit alone and in pairs.
+//! the folds; coordinates that Replicate clamps; weights about 0; zooms that round from a tie; axes of length 1;
+//! the longest axes; each limit alone and in pairs.
 
 use requests::plan::{Plan, Voxels, VOXELS};
 use requests::request::{Asked, Entry, CONSTANT, ENTRIES, MIRROR, MODES, NEAREST, REPLICATE};
+use requests::single::{stilled, THIN};
 use requests::spoils::{sound, SPOILS};
 
 pub fn plans() -> Vec<Plan> {
@@ -15,6 +16,8 @@ pub fn plans() -> Vec<Plan> {
     plans.extend(clamped());
     plans.extend(weights_about_0());
     plans.extend(ties());
+    plans.extend(thin());
+    plans.extend(slices());
     plans.extend(longest());
     plans.extend(limits());
     plans
@@ -236,10 +239,69 @@ fn ties() -> Vec<Plan> {
     plans
 }
 
-/// Axes of 4,096, in or out.
+/// Axes of length 1, one, two or three of them; the others moved, and left still.
+fn thin() -> Vec<Plan> {
+    let mut plans = Vec::new();
+    for entry in ENTRIES {
+        for mode in MODES {
+            for (order, prefilter) in (0..=5).flat_map(|order| [(order, 0), (order, 1)]) {
+                for (dims, turn) in THIN.into_iter().zip(0..) {
+                    let still = Asked {
+                        dims,
+                        axis: turn % 3,
+                        prefilter,
+                        mode,
+                        ..plain(entry, order)
+                    };
+                    let factors = match entry {
+                        Entry::Zoom => [1.5, 0.7, 1.75],
+                        _ if order == 0 => [1.0, -1.0, 2.0],
+                        _ => [0.25, -1.5, 13.5],
+                    };
+                    let moved = stilled(&Asked { factors, ..still });
+                    for (asked, seed) in [(still, 1), (moved, 2)] {
+                        plans.push(Plan {
+                            voxels: VOXELS[(turn + order) % VOXELS.len()],
+                            ..Plan::of(asked, seed)
+                        });
+                    }
+                }
+            }
+        }
+    }
+    plans
+}
+
+/// Single slices of ten thousand voxels and more.
+fn slices() -> Vec<Plan> {
+    let mut plans = Vec::new();
+    for mode in MODES {
+        for entry in ENTRIES {
+            for axis in 0..3 {
+                let turn = axis + mode as usize;
+                let mut asked = Asked {
+                    dims: [95, 113, 131],
+                    factors: match entry {
+                        Entry::Zoom => [1.1, 0.9, 1.05],
+                        _ => [7.25, -3.5, 40.75],
+                    },
+                    axis: turn % 3,
+                    prefilter: 1,
+                    mode,
+                    ..plain(entry, 2 + turn % 4)
+                };
+                asked.dims[axis] = 1;
+                plans.push(Plan::of(stilled(&asked), turn as u64));
+            }
+        }
+    }
+    plans
+}
+
+/// Axes of 4,096, in or out, beside axes of 2 and of 1.
 fn longest() -> Vec<Plan> {
     let mut plans = Vec::new();
-    for axis in 0..3 {
+    for (axis, short) in (0..3).flat_map(|axis| [(axis, 2), (axis, 1)]) {
         for mode in MODES {
             for (entry, order) in [
                 (Entry::Shift, 1),
@@ -249,6 +311,7 @@ fn longest() -> Vec<Plan> {
                 (Entry::SplineFilter1d, 3),
             ] {
                 let mut asked = Asked {
+                    dims: [short; 3],
                     axis,
                     prefilter: 1,
                     mode,
@@ -261,8 +324,12 @@ fn longest() -> Vec<Plan> {
                 };
                 plans.push(Plan::of(asked, axis as u64));
             }
-            let mut widened = plain(Entry::Zoom, 3);
-            widened.mode = mode;
+            let mut widened = Asked {
+                dims: [short; 3],
+                mode,
+                ..plain(Entry::Zoom, 3)
+            };
+            widened.dims[axis] = 2;
             widened.factors[axis] = 2048.0;
             plans.push(Plan {
                 voxels: Voxels::Whole,

@@ -66,11 +66,16 @@ fn run(words: &[String]) -> Result<String, String> {
     }
 }
 
-/// The list, then as many cases as are asked for, each with its number.
+/// The list, then as many cases as are asked for and a quarter as many with axes of length 1, each with its number.
 fn plans(cases: &str, seed: &str) -> Result<impl Iterator<Item = (usize, Plan)>, String> {
     let (cases, seed) = (number(cases)?, number(seed)?);
     let drawn = (0..cases).map(move |number| drawn::plan(seed, number));
-    Ok(listed::plans().into_iter().chain(drawn).enumerate())
+    let thin = (0..cases / 4).map(move |number| drawn::thin(seed, number));
+    Ok(listed::plans()
+        .into_iter()
+        .chain(drawn)
+        .chain(thin)
+        .enumerate())
 }
 
 fn number<T: FromStr>(word: &str) -> Result<T, String> {

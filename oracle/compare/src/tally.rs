@@ -3,11 +3,12 @@
 use std::fmt;
 
 use requests::alone::Left;
-use requests::document::{CODES, OUTSIDE, UNKNOWN_MODE};
+use requests::document::CODES;
 use requests::outcome::Outcome;
-use requests::request::{Entry, Request, ENTRIES};
+use requests::request::{Asked, Request, ENTRIES};
+use requests::single;
 
-const ANSWERS: [u32; 12] = [0, 1, 2, 3, 4, 5, 6, 7, 8, 9, OUTSIDE, UNKNOWN_MODE];
+const ANSWERS: [u32; 13] = [0, 1, 2, 3, 4, 5, 6, 7, 8, 9, 11, 12, 255];
 
 /// How many calls had each answer.
 type Answers = [usize; ANSWERS.len()];
@@ -18,7 +19,18 @@ pub struct Tally {
     voxels: usize,
     codes: [u64; CODES],
     work: usize,
+    thin: Thin,
     alone: Alone,
+}
+
+/// Cases with axes of length 1: those that succeeded by how many there are, and the others; thereof those held
+/// to the Rust's answer with two slices, and voxels asked for alone.
+#[derive(Default)]
+struct Thin {
+    done: [usize; 3],
+    refused: usize,
+    judged: usize,
+    alone: usize,
 }
 
 /// Voxels that were asked for alone, of shifts and of zooms: their answers and codes, and what they were held to.
@@ -35,6 +47,7 @@ impl Tally {
     pub fn add(&mut self, request: &Request, outcome: &Outcome) {
         let asked = &request.asked;
         count(&mut self.cases[asked.entry as usize], outcome.status);
+        self.thin.add(asked, outcome.status);
         if outcome.status == 0 {
             self.voxels += outcome.lent.output.length();
             self.work += asked.needed();
@@ -47,16 +60,31 @@ impl Tally {
     }
 
     /// Counts one voxel that was as expected: as in the Rust's volume, or as by its tables.
-    pub fn add_alone(&mut self, entry: Entry, left: &Left, in_volume: bool) {
+    pub fn add_alone(&mut self, asked: &Asked, left: &Left, in_volume: bool) {
         let alone = &mut self.alone;
-        count(&mut alone.cases[entry as usize], left.status);
+        count(&mut alone.cases[asked.entry as usize], left.status);
         if left.status == 0 {
+            self.thin.alone += usize::from(asked.has_single());
             alone.codes[usize::from(left.lent.coverage.lent()[0])] += 1;
             if in_volume {
                 alone.in_volume += 1;
             } else {
                 alone.by_tables += 1;
             }
+        }
+    }
+}
+
+impl Thin {
+    fn add(&mut self, asked: &Asked, status: u32) {
+        let axes = (0..3).filter(|axis| asked.is_single(*axis)).count();
+        match (axes, status) {
+            (0, _) => {}
+            (axes, 0) => {
+                self.done[axes - 1] += 1;
+                self.judged += usize::from(single::is_judged(asked));
+            }
+            _ => self.refused += 1,
         }
     }
 }
@@ -101,6 +129,18 @@ impl fmt::Display for Tally {
             self.voxels,
             of_codes(&self.codes),
             self.work
+        )?;
+        let Thin {
+            done: [one, two, three],
+            refused,
+            judged,
+            alone,
+        } = self.thin;
+        write!(
+            f,
+            "\n{} of them with an axis of length 1 ({one}), two ({two}) or three ({three}), or refused ({refused}): \
+             {judged} held to the Rust's first of two slices too, {alone} voxels alone",
+            one + two + three + refused,
         )?;
         let alone = &self.alone;
         write!(

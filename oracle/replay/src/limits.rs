@@ -1,4 +1,4 @@
-//! Requests at the limits of document 01: each limit alone, and for every two refusals that can meet a
+//! Requests at the limits of documents 01 and 02: each limit alone, and for every two refusals that can meet a
 //! request in which they do.
 
 use std::collections::HashSet;
@@ -29,7 +29,8 @@ fn pairs(entry: Entry) -> Vec<Plan> {
     let mut met = HashSet::new();
     let mut pairs = Vec::new();
     for (earlier, first) in &causes {
-        for (later, second) in causes.iter().filter(|(later, _)| later > earlier) {
+        let later = |(later, _): &&(u32, _)| document::comes_before(*earlier, *later);
+        for (later, second) in causes.iter().filter(later) {
             let both = spoiled(spoiled(sound(entry), first), second);
             let is_earlier = has_words_for(&both) && answer(&both) == *earlier;
             if is_earlier && met.insert((earlier, later)) {

@@ -1,7 +1,8 @@
 //! What the file promises to have: every entry, mode, order and flag carried out, shifts that drop or
 //! clamp some voxels and leave others, shifts and zooms that fold some voxels' neighbours and no others',
-//! and every refusal of every entry.
+//! axes of length 1, and every refusal of every entry.
 
+use requests::document::MOVED_SINGLE;
 use requests::request::{Asked, Entry, CONSTANT, ENTRIES, MODES, NEAREST, REFLECT, REPLICATE};
 
 use crate::record::Answered;
@@ -20,6 +21,10 @@ pub fn check(calls: &[Answered]) -> Result<(), String> {
                 let is_of = |call: &Answered| {
                     call.answer == 0 && (call.asked.mode, call.asked.order) == (mode, order)
                 };
+                let what_thin = format!("{what}, an axis of length 1");
+                find(calls, entry, &what_thin, |call| {
+                    is_of(call) && call.asked.has_single()
+                })?;
                 let folds = entry.resamples() && order >= first_to_fold(mode);
                 if folds {
                     let what = format!("{what}, codes 0 and 3");
@@ -65,8 +70,8 @@ const DROPPING: [u32; 3] = [CONSTANT, NEAREST, REFLECT];
 
 fn refusals(entry: Entry) -> &'static [u32] {
     match entry {
-        Entry::Shift => &[1, 3, 4, 6, 7, 8, 9],
-        Entry::Zoom => &[1, 3, 4, 5, 6, 7, 8],
+        Entry::Shift => &[1, 3, 4, MOVED_SINGLE, 6, 7, 8, 9],
+        Entry::Zoom => &[1, 3, 4, MOVED_SINGLE, 5, 6, 7, 8],
         Entry::SplineFilter => &[1, 3, 6, 7, 8],
         Entry::SplineFilter1d => &[1, 2, 3, 6, 7, 8],
     }

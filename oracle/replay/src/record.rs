@@ -79,7 +79,7 @@ pub struct Recording {
 }
 
 impl Recording {
-    /// Adds the call as the Rust answers it; or says how the Rust and document 01 disagree.
+    /// Adds the call as the Rust answers it; or says how the Rust and the documents disagree.
     pub fn add(&mut self, request: &Request) -> Result<Answered, String> {
         let outcome =
             expected::outcome(request).map_err(|reason| format!("{reason}\n{request}"))?;

@@ -1,9 +1,10 @@
 //! Requests that are carried out, but for some of order 0: every entry, mode, order and flag, lengths
-//! about the prefilter's cut-offs, and volumes in which some voxels bear 0 and others 3.
+//! about the prefilter's cut-offs, volumes in which some voxels bear 0 and others 3, and axes of length 1.
 
 use requests::document::{count, LARGEST};
 use requests::plan::{Off, Plan, Voxels, VOXELS};
-use requests::request::{Asked, Entry, MIRROR, MODES, REFLECT};
+use requests::request::{Asked, Entry, ENTRIES, MIRROR, MODES, REFLECT};
+use requests::single::{stilled, THIN};
 use requests::spoils::sound;
 
 /// Of a volume of 2 by 3 by 4. Each mode that drops coordinates drops some in one of them and keeps
@@ -33,6 +34,7 @@ pub fn plans() -> Vec<Plan> {
     plans.extend(cut_offs());
     plans.extend(unmoved());
     plans.extend(rounded_up());
+    plans.extend(thin());
     plans
 }
 
@@ -179,6 +181,34 @@ fn rounded_up() -> Vec<Plan> {
                 ..sound(Entry::Zoom).asked
             };
             plans.push(Plan::of(asked, 3));
+        }
+    }
+    plans
+}
+
+/// Every entry, mode and order with axes of length 1, one, two or three of them, and the flags and the axes of the
+/// filters by turns. At order 0 the longer axes are moved by whole voxels, so that no refusal is met.
+fn thin() -> Vec<Plan> {
+    let mut plans = Vec::new();
+    for entry in ENTRIES {
+        for mode in MODES {
+            for order in 0..=5 {
+                let turn = order + mode as usize;
+                let mut asked = Asked {
+                    dims: THIN[(turn + 3 * entry as usize) % THIN.len()],
+                    order,
+                    axis: turn % 3,
+                    prefilter: (turn + entry as usize) as u32 % 2,
+                    mode,
+                    ..sound(entry).asked
+                };
+                if (entry, order) == (Entry::Shift, 0) {
+                    asked.factors = [1.0, 1.0, 2.0];
+                }
+                if entry != Entry::SplineFilter || order > 1 {
+                    plans.push(by_turns(stilled(&asked), turn));
+                }
+            }
         }
     }
     plans

@@ -41,9 +41,8 @@ pub fn expect(
     Ok(())
 }
 
-fn in_volume(request: &Request, [x, y, z]: [usize; 3], whole: &Outcome) -> (u64, u8) {
-    let [_, d1, d2] = request.asked.output_dims();
-    let place = (x * d1 + y) * d2 + z;
+fn in_volume(request: &Request, at: [usize; 3], whole: &Outcome) -> (u64, u8) {
+    let place = document::place(request.asked.output_dims(), at);
     let lent = &whole.lent;
     (lent.output.lent()[place], lent.coverage.lent()[place])
 }
@@ -65,9 +64,10 @@ fn by_tables(request: &Request, at: [usize; 3], lent: &Lent) -> Result<(u64, u8)
 #[cfg(test)]
 mod tests {
     use super::*;
-    use crate::document::{count, OUTSIDE};
+    use crate::document::{indices, MOVED_SINGLE, OUTSIDE};
     use crate::plan::Plan;
-    use crate::request::{Asked, Entry, MODES};
+    use crate::request::{Asked, Entry};
+    use crate::single;
     use crate::spoils::{sound, Spoil};
 
     fn answer(plan: &Plan, alone: &Alone) -> u32 {
@@ -87,14 +87,15 @@ mod tests {
         }
     }
 
-    /// Document 02: 11 "after 01's nine".
+    /// Document 02: 11 "after 01's nine", among which #106 puts 12.
     #[test]
     fn every_other_refusal_comes_first() {
-        let spoiled: [(u32, Spoil); 9] = [
+        let spoiled: [(u32, Spoil); 10] = [
             (255, |p| p.asked.mode = 6),
             (1, |p| p.asked.order = 6),
-            (3, |p| p.asked.dims[0] = 1),
+            (3, |p| p.asked.dims[0] = 0),
             (4, |p| p.asked.factors[1] = f64::NAN),
+            (MOVED_SINGLE, |p| p.asked.dims[0] = 1),
             (6, |p| p.asked.dims = [512, 513, 512]),
             (7, |p| p.off.input += 1),
             (7, |p| p.off.work -= 1),
@@ -131,20 +132,9 @@ mod tests {
     }
 
     fn requests() -> Vec<Asked> {
-        let mut requests = Vec::new();
-        for entry in [Entry::Shift, Entry::Zoom] {
-            for mode in MODES {
-                for (order, prefilter) in (0..=5).flat_map(|order| [(order, 0), (order, 1)]) {
-                    requests.push(Asked {
-                        order,
-                        prefilter,
-                        mode,
-                        ..sound(entry).asked
-                    });
-                }
-            }
-        }
-        requests
+        let volumes = [[2, 3, 4], [1, 3, 4], [2, 1, 1], [1, 1, 1]].into_iter();
+        let each = |dims| single::tests::requests(&[Entry::Shift, Entry::Zoom], dims);
+        volumes.flat_map(each).collect()
     }
 
     /// By the tables a voxel is what it is in the volume, over the coefficients of that.
@@ -161,9 +151,7 @@ mod tests {
             } else {
                 &request.input
             };
-            let [_, d1, d2] = volume.dims;
-            for place in 0..count(volume.dims) {
-                let at = [place / (d1 * d2), place / d2 % d1, place % d2];
+            for at in indices(volume.dims) {
                 let (value, code) = theirs::voxel(&asked, source, at).unwrap();
                 let (in_volume, its_code) = volume.voxel(at);
                 assert_eq!(value.to_bits(), in_volume.to_bits());

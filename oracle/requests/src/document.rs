@@ -1,11 +1,12 @@
 //! Document 01 in plain Rust: the lengths of buffers, and the number that a request is answered
-//! with; the counts are four since document 02's #103, the modes six since #104, and one voxel may be asked
-//! for since #105. The fold alone is the Rust's own, as document 01 has it.
+//! with; the counts are four since document 02's #103, the modes six since #104, one voxel may be asked
+//! for since #105, and an axis may have length 1 since #106. The fold alone is the Rust's own, as document 01
+//! has it.
 
 use ndarray_ndimage::probe::map_coordinates;
 use ndarray_ndimage::BorderMode;
 
-use crate::request::{Alone, Asked, Entry, Mode, Request};
+use crate::request::{Alone, Asked, Entry, Lengths, Mode, Request};
 
 /// The most places of a volume or of work.
 const MOST_PLACES: usize = 1 << 27;
@@ -19,17 +20,20 @@ pub const CODES: usize = 4;
 pub const UNKNOWN_MODE: u32 = 255;
 /// The answer to one voxel whose index lies outside the output (document 02, #105).
 pub const OUTSIDE: u32 = 11;
+/// The answer to an axis of length 1 that is moved, or zoomed to another length (document 02, #106).
+pub const MOVED_SINGLE: u32 = 12;
 
 /// Whether a refusal applies, asked only where no earlier one does.
 type Applies = fn(&Request) -> bool;
 
-/// The refusals in document 01's order. Without a mode there is no request, so that this comes first.
-const REFUSALS: [(u32, Applies); 10] = [
+/// The refusals in the documents' order. Without a mode there is no request, so that this comes first.
+const REFUSALS: [(u32, Applies); 11] = [
     (UNKNOWN_MODE, |request| request.asked.mode().is_none()),
     (1, order_refused),
     (2, axis_refused),
     (3, length_refused),
     (4, factor_refused),
+    (MOVED_SINGLE, single_refused),
     (5, output_length_refused),
     (6, count_refused),
     (7, buffer_refused),
@@ -41,6 +45,12 @@ const REFUSALS: [(u32, Applies); 10] = [
 pub fn answer(request: &Request) -> u32 {
     let refusal = REFUSALS.iter().find(|(_, applies)| applies(request));
     refusal.map_or(0, |(number, _)| *number)
+}
+
+/// Whether one refusal is settled before another.
+pub fn comes_before(earlier: u32, later: u32) -> bool {
+    let place = |number| REFUSALS.iter().position(|(n, _)| *n == number);
+    place(earlier) < place(later)
 }
 
 /// The number of the answer to one voxel of the request: that of the volume's call, were its own buffers
@@ -77,8 +87,20 @@ fn factor_refused(Request { asked, .. }: &Request) -> bool {
     }
 }
 
+/// Only `shift` and `zoom` move an axis.
+fn single_refused(Request { asked, .. }: &Request) -> bool {
+    (0..3).any(|axis| {
+        asked.is_single(axis)
+            && match asked.entry {
+                Entry::Shift => asked.factors[axis] != 0.0,
+                _ => asked.output_dims()[axis] != 1,
+            }
+    })
+}
+
 fn output_length_refused(Request { asked, .. }: &Request) -> bool {
-    !asked.output_dims().into_iter().all(is_length)
+    let outputs = asked.output_dims();
+    (0..3).any(|axis| !asked.is_single(axis) && !is_longer(outputs[axis]))
 }
 
 fn count_refused(Request { asked, .. }: &Request) -> bool {
@@ -92,11 +114,13 @@ fn count_refused(Request { asked, .. }: &Request) -> bool {
 
 fn buffer_refused(request: &Request) -> bool {
     let (asked, lent) = (&request.asked, &request.lengths);
-    let voxels = count(asked.output_dims());
+    let right = asked.lengths();
     request.input.len() != count(asked.dims)
-        || lent.output != voxels
+        || lent.output != right.output
         || asked.entry.resamples()
-            && (lent.coverage != voxels || lent.work < asked.needed() || lent.counts != CODES)
+            && (lent.coverage != right.coverage
+                || lent.work < right.work
+                || lent.counts != right.counts)
 }
 
 /// Value and code have a place each; of the volume's other buffers there is work.
@@ -122,6 +146,11 @@ fn coordinate_refused(Request { asked, .. }: &Request) -> bool {
 }
 
 fn is_length(length: usize) -> bool {
+    length == 1 || is_longer(length)
+}
+
+/// Of an axis that may be filtered, padded, folded and moved.
+fn is_longer(length: usize) -> bool {
     (2..=4096).contains(&length)
 }
 
@@ -152,15 +181,30 @@ pub fn count(dims: [usize; 3]) -> usize {
     dims.into_iter().fold(1, usize::saturating_mul)
 }
 
+/// Where the voxel of an index stands.
+pub fn place([_, d1, d2]: [usize; 3], [x, y, z]: [usize; 3]) -> usize {
+    (x * d1 + y) * d2 + z
+}
+
+/// Every index, in the order of memory.
+pub fn indices(dims: [usize; 3]) -> impl Iterator<Item = [usize; 3]> {
+    let [_, d1, d2] = dims;
+    (0..count(dims)).map(move |place| [place / (d1 * d2), place / d2 % d1, place % d2])
+}
+
 fn zoomed(length: usize, factor: f64) -> usize {
     (length as f64 * factor).round_ties_even() as usize
 }
 
-/// What `vurelika_zoom_length` gives: 0 where one of refusals 3 to 5 applies.
+/// What `vurelika_zoom_length` gives: 0 where refusal 3, 4, 12 or 5 applies.
 pub fn zoom_length(length: usize, factor: f64) -> usize {
-    let taken = is_length(length) && is_zoom(factor) && is_length(zoomed(length, factor));
-    if taken {
-        zoomed(length, factor)
+    let outputs = zoomed(length, factor);
+    let taken = match length {
+        1 => outputs == 1,
+        _ => is_longer(length) && is_longer(outputs),
+    };
+    if taken && is_zoom(factor) {
+        outputs
     } else {
         0
     }
@@ -189,9 +233,33 @@ impl Asked {
         }
     }
 
-    /// The coordinate of an output index before any pad, fold or clamp.
+    /// Whether the axis has length 1.
+    pub fn is_single(&self, axis: usize) -> bool {
+        self.dims[axis] == 1
+    }
+
+    pub fn has_single(&self) -> bool {
+        (0..3).any(|axis| self.is_single(axis))
+    }
+
+    /// The request with some axes left still: by shift 0 or factor 1.
+    pub fn still(&self, which: [bool; 3]) -> Asked {
+        let unmoved = match self.entry {
+            Entry::Zoom => 1.0,
+            _ => 0.0,
+        };
+        let mut still = *self;
+        for axis in (0..3).filter(|axis| which[*axis]) {
+            still.factors[axis] = unmoved;
+        }
+        still
+    }
+
+    /// The coordinate of an output index before any pad, fold or clamp. On an axis of length 1 it is 0, which
+    /// none of them moves.
     pub fn coordinate(&self, axis: usize, index: usize) -> f64 {
         let (shift, ratio) = match self.entry {
+            _ if self.is_single(axis) => return 0.0,
             Entry::Shift => (-self.factors[axis], 1.0),
             _ => {
                 let (length, outputs) = (self.dims[axis], self.output_dims()[axis]);
@@ -217,17 +285,17 @@ impl Asked {
     }
 
     /// Whether `shift` and `zoom` filter the voxels first.
-    fn filters(&self) -> bool {
+    pub fn filters(&self) -> bool {
         self.prefilter != 0 && self.order > 1
     }
 
-    /// The lengths of what the sums read.
+    /// The lengths of what the sums read. An axis of length 1 has no pad.
     pub fn source_dims(&self) -> [usize; 3] {
-        if self.filters() && self.pads() {
-            self.dims.map(|length| length.saturating_add(24))
-        } else {
-            self.dims
-        }
+        let is_padded = self.filters() && self.pads();
+        self.dims.map(|length| match length {
+            2.. if is_padded => length.saturating_add(24),
+            _ => length,
+        })
     }
 
     /// The places of work that `shift` and `zoom` need, were there no refusal.
@@ -245,6 +313,17 @@ impl Asked {
             self.resampling_work()
         } else {
             0
+        }
+    }
+
+    /// The right lengths of the buffers.
+    pub fn lengths(&self) -> Lengths {
+        let voxels = count(self.output_dims());
+        Lengths {
+            output: voxels,
+            coverage: voxels,
+            work: self.needed(),
+            counts: CODES,
         }
     }
 }

@@ -1,12 +1,13 @@
-//! What a call must leave: document 01 says which number, the Rust says which values.
+//! What a call must leave: documents 01 and 02 say which number, the Rust says which values.
 
 use crate::document::{self, CODES};
 use crate::lent::Lent;
 use crate::outcome::Outcome;
 use crate::request::Request;
+use crate::single;
 use crate::theirs::{self, Theirs};
 
-/// The outcome that the request must have; or how the Rust and document 01 disagree on it.
+/// The outcome that the request must have; or how the Rust and the documents disagree on it.
 pub fn outcome(request: &Request) -> Result<Outcome, String> {
     let asked = &request.asked;
     let status = document::answer(request);
@@ -15,6 +16,9 @@ pub fn outcome(request: &Request) -> Result<Outcome, String> {
         0 => {
             let theirs = theirs::call(asked, &request.input);
             let theirs = theirs.ok_or("no refusal applies, and the Rust panics")?;
+            if single::is_judged(asked) && !single::agrees(asked, &request.input, &theirs) {
+                return Err("the Rust gives another slice where there are two of it".into());
+            }
             write(&mut lent, request, &theirs)?;
         }
         9 if theirs::call(asked, &request.input).is_some() => {
@@ -38,7 +42,7 @@ pub fn outcome(request: &Request) -> Result<Outcome, String> {
 fn write(lent: &mut Lent, request: &Request, theirs: &Theirs) -> Result<(), String> {
     let needed = request.asked.needed();
     if theirs.dims != request.asked.output_dims() || theirs.coefficients.len() != needed {
-        return Err("the Rust's volumes have other lengths than document 01 says".into());
+        return Err("the Rust's volumes have other lengths than the documents say".into());
     }
     put(lent.output.lent_mut(), &theirs.values);
     put(&mut lent.work.lent_mut()[..needed], &theirs.coefficients);

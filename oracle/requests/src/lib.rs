@@ -1,4 +1,4 @@
-//! Requests, and what a call must leave for each: document 01 says which answer, the Rust which
+//! Requests, and what a call must leave for each: documents 01 and 02 say which answer, the Rust which
 //! values. Nothing here needs the library.
 
 pub mod alone;
@@ -9,5 +9,6 @@ pub mod outcome;
 pub mod plan;
 mod replicate;
 pub mod request;
+pub mod single;
 pub mod spoils;
 pub mod theirs;

@@ -3,7 +3,7 @@
 
 use shared::Seeded;
 
-use crate::document::{count, CODES, LARGEST};
+use crate::document::{count, LARGEST};
 use crate::request::{Asked, Lengths, Request};
 
 /// A buffer that would be longer is lent as short as `SHORT`, so that a request beyond refusal 6 is
@@ -99,7 +99,7 @@ impl Plan {
 
     pub fn request(&self) -> Request {
         let asked = self.asked;
-        let outputs = count(asked.output_dims());
+        let right = asked.lengths();
         let input = lent(count(asked.dims), self.off.input);
         let mut input = self.voxels.draw(self.seed, asked.dims, input);
         if let (Some(flaw), length @ 1..) = (self.flaw, input.len()) {
@@ -109,10 +109,10 @@ impl Plan {
             asked,
             input,
             lengths: Lengths {
-                output: lent(outputs, self.off.output),
-                coverage: lent(outputs, self.off.coverage),
-                work: lent(asked.needed(), self.off.work),
-                counts: lent(CODES, self.off.counts),
+                output: lent(right.output, self.off.output),
+                coverage: lent(right.coverage, self.off.coverage),
+                work: lent(right.work, self.off.work),
+                counts: lent(right.counts, self.off.counts),
             },
         }
     }

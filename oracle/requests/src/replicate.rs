@@ -4,9 +4,9 @@
 
 use std::collections::BTreeMap;
 
-use crate::document::count;
-use crate::request::{Asked, Entry, NEAREST};
-use crate::theirs::{self, Theirs};
+use crate::document::{self, indices};
+use crate::request::{Asked, NEAREST};
+use crate::theirs::{self, Given, Theirs};
 
 /// Where on an axis the Rust is asked for an output index.
 #[derive(Clone, Copy)]
@@ -75,50 +75,54 @@ pub fn voxel(asked: &Asked, source: &[f64], at: [usize; 3]) -> Option<(f64, u8)>
     }
 }
 
+/// What each axis gives to its output indices; `None` where the Rust panics and should not.
+pub fn along(asked: &Asked) -> Option<[Vec<Given>; 3]> {
+    let outputs = asked.output_dims();
+    let [moved, still] = [false, true].map(|still| theirs::along(&in_nearest(asked, [still; 3])));
+    let given = |axis: usize, index: usize| {
+        if asked.order == 0 {
+            return Some(Given::one(rounded(asked, axis, index)));
+        }
+        let place = place(asked, axis, index);
+        let given = if place.still { &still } else { &moved };
+        Some(given.as_ref()?[axis][place.index].clone())
+    };
+    let along = |axis| -> Option<Vec<Given>> {
+        let given = (0..outputs[axis]).map(|index| given(axis, index));
+        given.collect()
+    };
+    Some([along(0)?, along(1)?, along(2)?])
+}
+
 /// The Rust's answer in Nearest, with some axes left still.
 fn nearest(asked: &Asked, still: [bool; 3], input: &[f64]) -> Option<Theirs> {
     theirs::call(&in_nearest(asked, still), input)
 }
 
 fn in_nearest(asked: &Asked, still: [bool; 3]) -> Asked {
-    let unmoved = match asked.entry {
-        Entry::Zoom => 1.0,
-        _ => 0.0,
-    };
-    let mut asked = Asked {
+    Asked {
         mode: NEAREST,
-        ..*asked
-    };
-    for (factor, still) in asked.factors.iter_mut().zip(still) {
-        if still {
-            *factor = unmoved;
-        }
+        ..asked.still(still)
     }
-    asked
 }
 
 /// At order 0 the Rust panics wherever some coordinate of Nearest rounds outside (refusal 9), also if that
 /// index is not the one that is wanted. So document 01's rule is applied by hand there: the one voxel at
 /// the rounded index is copied.
 fn copied(asked: &Asked, input: &[f64], at: [usize; 3]) -> f64 {
-    let rounded = |axis: usize| (asked.settled(axis, at[axis]) + 0.5).floor() as usize;
-    let [x, y, z] = [0, 1, 2].map(rounded);
-    let [_, d1, d2] = asked.dims;
-    input[(x * d1 + y) * d2 + z]
+    let rounded = [0, 1, 2].map(|axis| rounded(asked, axis, at[axis]));
+    input[document::place(asked.dims, rounded)]
 }
 
-/// In the order of memory.
-fn indices(dims: [usize; 3]) -> impl Iterator<Item = [usize; 3]> {
-    let [_, d1, d2] = dims;
-    (0..count(dims)).map(move |place| [place / (d1 * d2), place / d2 % d1, place % d2])
+fn rounded(asked: &Asked, axis: usize, index: usize) -> usize {
+    (asked.settled(axis, index) + 0.5).floor() as usize
 }
 
 #[cfg(test)]
 mod tests {
     use super::*;
-    use crate::document;
     use crate::plan::Plan;
-    use crate::request::REPLICATE;
+    use crate::request::{Entry, REPLICATE};
     use crate::spoils::sound;
 
     const SHIFTS: [[f64; 3]; 7] = [

@@ -1,4 +1,4 @@
-//! Changes that bring a request to a limit of document 01, on the one side or the other.
+//! Changes that bring a request to a limit of documents 01 and 02, on the one side or the other.
 
 use crate::document::{FARTHEST, LARGEST};
 use crate::plan::Plan;
@@ -24,6 +24,16 @@ pub fn sound(entry: Entry) -> Plan {
     Plan::of(asked, 1)
 }
 
+/// Gives some axes the length 1, and this factor or the one that leaves them still.
+fn make_single(plan: &mut Plan, which: [bool; 3], factor: Option<f64>) {
+    let mut asked = plan.asked.still(which);
+    for axis in (0..3).filter(|axis| which[*axis]) {
+        asked.dims[axis] = 1;
+        asked.factors[axis] = factor.unwrap_or(asked.factors[axis]);
+    }
+    plan.asked = asked;
+}
+
 pub const SPOILS: &[Spoil] = &[
     // 1
     |p| p.asked.order = 0,
@@ -36,7 +46,7 @@ pub const SPOILS: &[Spoil] = &[
     |p| p.asked.axis = 3,
     |p| p.asked.axis = usize::MAX,
     // 3
-    |p| p.asked.dims[0] = 1,
+    |p| p.asked.dims[0] = 0,
     |p| p.asked.dims[1] = 0,
     |p| p.asked.dims[1] = 2,
     |p| p.asked.dims[2] = 4097,
@@ -55,6 +65,19 @@ pub const SPOILS: &[Spoil] = &[
     |p| p.asked.factors[0] = -0.0,
     |p| p.asked.factors[1] = -1.0,
     |p| p.asked.factors[2] = 4096.0f64.next_up(),
+    // 12, but for the filters; where the axis is left still none, nor at these zooms
+    |p| p.asked.dims[0] = 1,
+    |p| make_single(p, [true, false, false], None),
+    |p| make_single(p, [false, true, true], None),
+    |p| make_single(p, [true; 3], None),
+    |p| make_single(p, [true, false, false], Some(-0.0)),
+    |p| make_single(p, [false, true, false], Some(5e-324)),
+    |p| make_single(p, [false, false, true], Some(-5e-324)),
+    |p| make_single(p, [true, false, false], Some(0.5)),
+    |p| make_single(p, [true, false, false], Some(0.5f64.next_up())),
+    |p| make_single(p, [true, false, false], Some(1.5f64.next_down())),
+    |p| make_single(p, [true, false, false], Some(1.5)),
+    |p| make_single(p, [false, true, false], Some(4096.0)),
     // 5, at a factor that is taken
     |p| p.asked.factors[0] = 4096.0,
     |p| p.asked.factors[1] = 5e-324,
@@ -64,7 +87,7 @@ pub const SPOILS: &[Spoil] = &[
     |p| (p.asked.dims[1], p.asked.factors[1]) = (3, 0.5f64.next_down()),
     |p| (p.asked.dims[2], p.asked.factors[2]) = (4, 1024.125),
     |p| (p.asked.dims[2], p.asked.factors[2]) = (4, 1024.125f64.next_up()),
-    // 6: input, work, output
+    // 6: input, work, output; none where an axis has length 1
     |p| p.asked.dims = [512, 512, 512],
     |p| p.asked.dims = [512, 513, 512],
     |p| p.asked.dims = [4096, 4096, 4096],
@@ -72,6 +95,10 @@ pub const SPOILS: &[Spoil] = &[
     |p| (p.asked.dims, p.asked.mode) = ([488, 488, 489], NEAREST),
     |p| (p.asked.dims, p.asked.mode) = ([488, 488, 488], REPLICATE),
     |p| (p.asked.dims, p.asked.mode) = ([488, 488, 489], REPLICATE),
+    |p| {
+        p.asked = p.asked.still([true; 3]);
+        (p.asked.dims, p.asked.mode) = ([1, 4096, 4096], NEAREST)
+    },
     |p| (p.asked.dims, p.asked.factors) = ([2, 2, 2], [2048.0, 2048.0, 4.0]),
     |p| (p.asked.dims, p.asked.factors) = ([2, 2, 2], [4.5, 2048.0, 2048.0]),
     // 7

@@ -1,12 +1,13 @@
 //! The Rust: its values, the codes off its own tables, and its coefficients.
 
 use ndarray::{Array3, Axis};
-use ndarray_ndimage::probe::{coefficients, Axes};
+use ndarray_ndimage::probe::{coefficients, Axes, Point};
 use ndarray_ndimage::{shift, spline_filter, spline_filter1d, zoom, BorderMode};
 use shared::rust;
 
-use crate::replicate;
+use crate::document::place;
 use crate::request::{Asked, Entry, Mode};
+use crate::{replicate, single};
 
 /// What the Rust gives. The filters have no codes; without a prefilter there are no coefficients.
 pub struct Theirs {
@@ -18,17 +19,53 @@ pub struct Theirs {
 
 impl Theirs {
     /// The value and the code of a voxel.
-    pub fn voxel(&self, [x, y, z]: [usize; 3]) -> (f64, u8) {
-        let [_, d1, d2] = self.dims;
-        let place = (x * d1 + y) * d2 + z;
+    pub fn voxel(&self, at: [usize; 3]) -> (f64, u8) {
+        let place = place(self.dims, at);
         (self.values[place], self.codes[place])
     }
 }
 
-/// What the Rust gives for a request that passes refusals 1 to 8; `None` where it panics. In Replicate,
-/// what its answers in Nearest come to.
+/// What an axis gives to one output index.
+#[derive(Clone)]
+pub struct Given {
+    /// The indices that the sum reads, with their weights; none where the axis drops the voxel.
+    pub neighbours: Vec<(usize, f64)>,
+    /// The code of a voxel that the other axes leave at 0.
+    pub code: u8,
+}
+
+impl Given {
+    /// One voxel with the weight 1.
+    pub fn one(at: usize) -> Given {
+        Given {
+            neighbours: vec![(at, 1.0)],
+            code: 0,
+        }
+    }
+
+    /// At order 0 the Rust has no weight for its one neighbour.
+    fn of(point: &Point, code: u8) -> Given {
+        let neighbours = match point {
+            Point::Dropped => Vec::new(),
+            Point::Kept {
+                neighbours,
+                weights,
+                ..
+            } => {
+                let weights = weights.iter().chain(&[1.0]);
+                let at = neighbours.iter().map(|neighbour| *neighbour as usize);
+                at.zip(weights.copied()).collect()
+            }
+        };
+        Given { neighbours, code }
+    }
+}
+
+/// What the Rust gives for a request that passes every refusal but 9; `None` where it panics. In Replicate, and
+/// where an axis has length 1, what its pieces come to.
 pub fn call(asked: &Asked, input: &[f64]) -> Option<Theirs> {
     match asked.mode()? {
+        _ if asked.has_single() => single::call(asked, input),
         Mode::Replicate => replicate::call(asked, input),
         mode => rust::call(|| answer(asked, input, mode.rusts())),
     }
@@ -38,6 +75,7 @@ pub fn call(asked: &Asked, input: &[f64]) -> Option<Theirs> {
 /// panics. Without a prefilter the coefficients are the input.
 pub fn voxel(asked: &Asked, source: &[f64], at: [usize; 3]) -> Option<(f64, u8)> {
     match asked.mode()? {
+        _ if asked.has_single() => single::voxel(asked, source, at),
         Mode::Replicate => replicate::voxel(asked, source, at),
         mode => rust::call(|| {
             let (order, mode) = (asked.order, mode.rusts());
@@ -46,7 +84,35 @@ pub fn voxel(asked: &Asked, source: &[f64], at: [usize; 3]) -> Option<(f64, u8)>
     }
 }
 
-fn volume(dims: [usize; 3], values: &[f64]) -> Array3<f64> {
+/// What each axis gives to its output indices, by the Rust's tables; `None` where it panics.
+pub fn along(asked: &Asked) -> Option<[Vec<Given>; 3]> {
+    match asked.mode()? {
+        Mode::Replicate => replicate::along(asked),
+        mode => rust::call(|| {
+            let (axes, order, mode) = (axes(asked, mode.rusts()), asked.order, mode.rusts());
+            let (points, codes) = (axes.points(order, mode), axes.codes_along(order, mode));
+            [0, 1, 2].map(|axis| {
+                let given = points[axis].iter().zip(&codes[axis]);
+                given.map(|(point, code)| Given::of(point, *code)).collect()
+            })
+        }),
+    }
+}
+
+/// What the sums of `shift` and `zoom` read.
+pub fn source(asked: &Asked, input: &[f64]) -> Option<Array3<f64>> {
+    let mode = asked.mode()?.rusts();
+    let data = volume(asked.dims, input);
+    rust::call(|| {
+        if asked.has_single() {
+            single::coefficients(asked, data)
+        } else {
+            coefficients(&data, asked.order, mode, asked.prefilter != 0)
+        }
+    })
+}
+
+pub fn volume(dims: [usize; 3], values: &[f64]) -> Array3<f64> {
     let volume = Array3::from_shape_vec(dims, values.to_vec());
     volume.expect("as many voxels as the dimensions say")
 }
@@ -73,7 +139,7 @@ fn answer(asked: &Asked, input: &[f64], mode: BorderMode<f64>) -> Theirs {
     let data = volume(dims, input);
     let resampled = |values: Array3<f64>| Theirs {
         codes: axes(asked, mode).codes(order, mode),
-        coefficients: if prefilter && order > 1 {
+        coefficients: if asked.filters() {
             flat(&coefficients(&data, order, mode, prefilter))
         } else {
             Vec::new()
@@ -88,7 +154,8 @@ fn answer(asked: &Asked, input: &[f64], mode: BorderMode<f64>) -> Theirs {
     }
 }
 
-fn filtered(values: Array3<f64>) -> Theirs {
+/// A volume without codes and coefficients.
+pub fn filtered(values: Array3<f64>) -> Theirs {
     let (d0, d1, d2) = values.dim();
     Theirs {
         dims: [d0, d1, d2],
@@ -98,7 +165,7 @@ fn filtered(values: Array3<f64>) -> Theirs {
     }
 }
 
-fn flat(volume: &Array3<f64>) -> Vec<f64> {
+pub fn flat(volume: &Array3<f64>) -> Vec<f64> {
     let values = volume.as_slice();
     values.expect("a volume in the order of memory").to_vec()
 }
