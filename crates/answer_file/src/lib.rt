@@ -1,4 +1,6 @@
 // A file of recorded answers: its words, the comparison with them, and what a program writes of it.
+#![tactic(auto)]
+
 pub mod load;
 pub mod print;
 pub mod replay;

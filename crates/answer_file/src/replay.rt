@@ -1,7 +1,7 @@
 // A replay: where it stands in the words, how many numbers it has compared, and how many differ.
 use crate::words::{after, word_at};
 
-#[derive(Drop)]
+#[derive(Clone, Copy)]
 pub struct Replay {
     pub at: usize,
     pub compared: u64,

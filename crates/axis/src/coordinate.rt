@@ -10,7 +10,7 @@ use border::{BorderMode, map_coordinates};
 use limits::{edge_of, is_single};
 
 // One axis of a request: its length as padded, the output length, and the map of an output index.
-#[derive(Drop)]
+#[derive(Clone, Copy)]
 pub struct Axis {
     pub len: usize,
     pub out: usize,
@@ -101,7 +101,7 @@ pub fn zoom_axis(length: usize, out: usize, pad: usize) -> Axis
 }
 
 // When a mode folds a coordinate: never, with its pad, or before the pad is added.
-#[derive(Drop)]
+#[derive(Clone, Copy)]
 enum When {
     Never,
     WithPad,

@@ -10,7 +10,7 @@ use crate::splines::{base_of, build_splines, order_on};
 use border::{BorderMode, map_coordinates};
 
 // Mark 0: kept, with weights and neighbours. 1: dropped. 2: kept at order 0, but outside.
-#[derive(Drop)]
+#[derive(Clone, Copy)]
 pub struct Point {
     pub mark: u8,
     pub weight: [f64; 6],

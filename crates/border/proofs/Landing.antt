@@ -65,7 +65,7 @@ module _ (idx len : Float) (L : ℕ) (least : 2 ≤ L) (most : L ≤ 4120) (is :
       let r = a % p in
       let rest : Is (over (mirror_period len) idx) (pos r) = over_is a p m (omega arith) (omega arith) mirror-period h in
       let small : r < p = mod-lt a (omega arith) in
-      let by = arms.mirror-over idx len (floor_f (idx ⊘ mirror_period len)) refl (not_below h) (at_length h l) in
+      let by = arms.mirror_over idx len (floor_f (idx ⊘ mirror_period len)) refl (not_below h) (at_length h l) in
       elim (sides r L) [
         | inl k ↦ on_voxel Mirror L (pos a) r k (inl (up_own p a r (a / p) (parts a p))) rest (by false (le_is is rest ∙ lt-leb L r k))
         | inr k ↦ on_voxel Mirror L (pos a) (p - r) (omega arith) (inr (up_image p a (p - r) (suc (a / p)) (next_multiple a r p (a / p) (parts a p) (le_of_lt small))))
@@ -79,7 +79,7 @@ module _ (idx len : Float) (L : ℕ) (least : 2 ≤ L) (most : L ≤ 4120) (is :
       let rest : Is (under (mirror_period len) idx) (neg_ℤ (pos r)) = under_is a p m (omega arith) (omega arith) mirror-period h in
       let small : r < p = mod-lt a (omega arith) in
       let test = le_negatives r (L - 1) rest (minus_more (num_is 1 (lit≤ tt)) is (omega arith) (omega arith)) in
-      let by = arms.mirror-under idx len (floor_f (neg idx ⊘ mirror_period len)) refl t in
+      let by = arms.mirror_under idx len (floor_f (neg idx ⊘ mirror_period len)) refl t in
       elim (sides r (L - 1)) [
         | inl k ↦ on_voxel Mirror L (neg_ℤ (pos a)) r (omega arith) (inr (down_image p a r (a / p) (parts a p))) (negated rest) (by false (test ∙ lt-leb (L - 1) r k))
         | inr k ↦ on_voxel Mirror L (neg_ℤ (pos a)) (p - r) (omega arith) (inl (down_own p a (p - r) (suc (a / p)) (next_multiple a r p (a / p) (parts a p) (le_of_lt small))))
@@ -96,7 +96,7 @@ module _ (idx len : Float) (L : ℕ) (least : 2 ≤ L) (most : L ≤ 4120) (is :
       let r = a % p in
       let rest : Is (over (reflect_period len) idx) (pos r) = over_is a p m (omega arith) (omega arith) reflect-period h in
       let small : r < p = mod-lt a (omega arith) in
-      let by = arms.reflect-over idx len (floor_f (idx ⊘ reflect_period len)) refl (not_below h) (at_length h l) in
+      let by = arms.reflect_over idx len (floor_f (idx ⊘ reflect_period len)) refl (not_below h) (at_length h l) in
       elim (sides r L) [
         | inl k ↦ on_voxel Reflect L (pos a) r k (inl (up_own p a r (a / p) (parts a p))) rest (by false (le_is is rest ∙ lt-leb L r k))
         | inr k ↦
@@ -123,7 +123,7 @@ module _ (idx len : Float) (L : ℕ) (least : 2 ≤ L) (most : L ≤ 4120) (is :
         | inl k ↦ record {
           u = a % p;
           q = a / p;
-          step = subst (λ (x : Float). Is x (neg_ℤ (pos (a % p)))) (arms.reflect-far idx len (floor_f (neg idx ⊘ reflect_period len)) refl (test ∙ lt-ltb p a k)) (under_is a p m (omega arith) (omega arith) reflect-period h);
+          step = subst (λ (x : Float). Is x (neg_ℤ (pos (a % p)))) (arms.reflect_far idx len (floor_f (neg idx ⊘ reflect_period len)) refl (test ∙ lt-ltb p a k)) (under_is a p m (omega arith) (omega arith) reflect-period h);
           upto = le_of_lt (mod-lt a (omega arith));
           split = parts a p;
           zero_far = λ z. twice p a (a / p) k (parts a p ∙ ap (λ (j : ℕ). j + p * (a / p)) z);
@@ -132,7 +132,7 @@ module _ (idx len : Float) (L : ℕ) (least : 2 ≤ L) (most : L ≤ 4120) (is :
         | inr k ↦ record {
           u = a;
           q = 0;
-          step = subst (λ (x : Float). Is x (neg_ℤ (pos a))) (arms.reflect-near idx len idx (test ∙ le-ltb p a k)) h;
+          step = subst (λ (x : Float). Is x (neg_ℤ (pos a))) (arms.reflect_near idx len idx (test ∙ le-ltb p a k)) h;
           upto = k;
           split = omega (arith, mul-zero p);
           zero_far = λ z. omega arith;
@@ -186,11 +186,11 @@ module _ (idx len : Float) (L : ℕ) (least : 2 ≤ L) (most : L ≤ 4120) (is :
       let up : a + (p - a % p) ≡ p * suc q = next_multiple a (a % p) p q (parts a p) (le_of_lt small) in
       let one_more : Is (floor_f (neg idx ⊘ (len ⊖ num 1)) ⊕ num 1) (pos (suc q)) = subst (λ (j : ℕ). Is (floor_f (neg idx ⊘ (len ⊖ num 1)) ⊕ num 1) (pos j)) (add-one q) (plus (quotient_is a p m (omega arith) (omega arith) last_voxel h) (num_is 1 (lit≤ tt)) (omega (arith, div-le_self a p))) in
       let e : p * suc q - a ≡ p - a % p = omega arith in
-      subst (λ (x : Float). Is x (pos (p - a % p))) (arms.wrap-below idx len t)
+      subst (λ (x : Float). Is x (pos (p - a % p))) (arms.wrap_below idx len t)
       (subst (λ (j : ℕ). Is (idx ⊕ (len ⊖ num 1) ⊗ (floor_f (neg idx ⊘ (len ⊖ num 1)) ⊕ num 1)) (pos j)) e (neg_plus h (times last_voxel one_more (omega arith)) (omega arith) (omega arith)))
 
   wrap_beyond : (a : ℕ) → Is idx (pos a) → L ≤ a → a ≤ 2 ^ 32 → Is (fold_wrap idx len) (pos (a % (L - 1)))
-  wrap_beyond a h l m = subst (λ (x : Float). Is x (pos (a % (L - 1)))) (arms.wrap-beyond idx len (not_below h) (at_length h l)) (over_is a (L - 1) m (omega arith) (omega arith) last_voxel h)
+  wrap_beyond a h l m = subst (λ (x : Float). Is x (pos (a % (L - 1)))) (arms.wrap_beyond idx len (not_below h) (at_length h l)) (over_is a (L - 1) m (omega arith) (omega arith) last_voxel h)
 
 -- ---- coordinates that the cases of `Marked` and of `Overlap` shut out
 not_below_zero : (a : ℕ) → pos a <ℤ pos 0 → ⊥
@@ -228,14 +228,14 @@ within mode {r} a L h l i = go mode
 beyond : (mode : BorderMode) {idx len : Float} (a L : ℕ) → Is idx (pos a) → Is len (pos L) → 2 ≤ L → L ≤ 4120 → a ≤ 2 ^ 32 → L ≤ a → Lands mode L (pos a) (fold mode idx len)
 unfolding fold
 beyond (Constant fill) {idx} {len} a L h k l m d o = record {
-  marked = λ _. subst (λ (x : Float). Is x (negsuc 0)) (arms.constant-beyond idx len (not_below h) (at_length idx len L l m k h o)) (neg_is (num_is 1 (lit≤ tt)));
+  marked = λ _. subst (λ (x : Float). Is x (negsuc 0)) (arms.constant_beyond idx len (not_below h) (at_length idx len L l m k h o)) (neg_is (num_is 1 (lit≤ tt)));
   follows = λ no. absurd (no (inr (record { le = le→leb L a o })));
   chosen = tt;
 }
 beyond Mirror {idx} {len} a L h k l m d o = record { marked = λ z. absurd z; follows = λ _. mirror_beyond idx len L l m k a h o d; chosen = tt }
 beyond Nearest {idx} {len} a L h k l m d o = record {
   marked = λ z. absurd z;
-  follows = λ _. on_voxel Nearest L (pos a) (L - 1) (omega arith) (inr (inr (record { le = le→leb L a o }, refl))) (last_voxel idx len L l m k) (arms.nearest-beyond idx len (not_below h) (at_length idx len L l m k h o));
+  follows = λ _. on_voxel Nearest L (pos a) (L - 1) (omega arith) (inr (inr (record { le = le→leb L a o }, refl))) (last_voxel idx len L l m k) (arms.nearest_beyond idx len (not_below h) (at_length idx len L l m k h o));
   chosen = tt;
 }
 beyond Reflect {idx} {len} a L h k l m d o = record { marked = λ f. absurd (not_far a L l f); follows = λ _. reflect_beyond idx len L l m k a h o d; chosen = tt }
@@ -268,11 +268,11 @@ below mode {idx} {len} c L h k l m d = go mode
     t = lt_is h (num_is 0 (lit≤ tt))
 
     go : (mode : BorderMode) → Lands mode L (negsuc c) (fold mode idx len)
-    go (Constant fill) = record { marked = λ _. subst (λ (x : Float). Is x (negsuc 0)) (arms.constant-below idx len t) (neg_is (num_is 1 (lit≤ tt))); follows = λ no. absurd (no (inl (record { lt = tt }))); chosen = tt }
+    go (Constant fill) = record { marked = λ _. subst (λ (x : Float). Is x (negsuc 0)) (arms.constant_below idx len t) (neg_is (num_is 1 (lit≤ tt))); follows = λ no. absurd (no (inl (record { lt = tt }))); chosen = tt }
     go Mirror = record { marked = λ z. absurd z; follows = λ _. mirror_below idx len L l m k (suc c) h t d; chosen = tt }
     go Nearest = record {
       marked = λ z. absurd z;
-      follows = λ _. on_voxel Nearest L (negsuc c) 0 (omega arith) (inr (inl (record { lt = tt }, refl))) (num_is 0 (lit≤ tt)) (arms.nearest-below idx len t);
+      follows = λ _. on_voxel Nearest L (negsuc c) 0 (omega arith) (inr (inl (record { lt = tt }, refl))) (num_is 0 (lit≤ tt)) (arms.nearest_below idx len t);
       chosen = tt;
     }
     go Reflect = reflect_below idx len L l m k (suc c) (zero-lt-suc c) h t d
@@ -292,7 +292,7 @@ below mode {idx} {len} c L h k l m d = go mode
         }
     go Replicate = record {
       marked = λ z. absurd z;
-      follows = λ _. on_voxel Replicate L (negsuc c) 0 (omega arith) (inr (inl (record { lt = tt }, refl))) (num_is 0 (lit≤ tt)) (arms.replicate-below idx len t);
+      follows = λ _. on_voxel Replicate L (negsuc c) 0 (omega arith) (inr (inl (record { lt = tt }, refl))) (num_is 0 (lit≤ tt)) (arms.replicate_below idx len t);
       chosen = tt;
     }
 

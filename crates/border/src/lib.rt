@@ -1,12 +1,14 @@
 // The six border modes, and the fold that brings a coordinate beyond the border back: the Rust's
 // `map_coordinates`, operation by operation, and for Replicate, which the Rust does not have, the clamp.
 // Every function here takes any numbers.
+#![tactic(auto)]
+
 ghost use Rattle.std.specs.Prelude.{◌≡◌};
 ghost use Rattle.border.specs.Fold.{fold, fold_constant, fold_mirror, fold_nearest, fold_reflect, fold_wrap, fold_replicate};
 
 // How the volume goes on beyond its border. Only Constant carries a fill. Nearest is the Rust's, and drops
 // a coordinate at or below -1; Replicate is what the SciPy manual calls nearest.
-#[derive(Drop)]
+#[derive(Clone, Copy)]
 pub enum BorderMode {
     Constant(f64),
     Mirror,

@@ -1,3 +1,5 @@
 // The code of every output voxel, and the counts of the codes.
+#![tactic(auto)]
+
 pub mod counts;
 pub mod cover;

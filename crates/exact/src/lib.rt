@@ -1,4 +1,6 @@
 // Whole numbers among the floats: floor, and rounding to the nearest whole number.
+#![tactic(auto)]
+
 ghost use Rattle.std.specs.Prelude.{◌≡◌};
 ghost use Rattle.exact.specs.Floor.{floor_f};
 ghost use Rattle.exact.specs.Round.{round_ties_even_f};

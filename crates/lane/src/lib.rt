@@ -1,5 +1,7 @@
 // The passes over lines, whose first n places hold a lane each. The recursive passes run over four
 // lines at once: their chains of operations do not wait for each other.
+#![tactic(auto)]
+
 ghost use Rattle.std.specs.Prelude.{◌≡◌, ◌≤◌, ◌<◌, ◌-◌, map, length, take, set};
 ghost use Rattle.exact.specs.Rounded.{◌⊗◌};
 ghost use Rattle.limits.specs.Limits.{longest_padded};

@@ -1,4 +1,6 @@
 // The lanes of a buffer, four at a time: taken into lines, filtered, written back.
+#![tactic(auto)]
+
 ghost use Rattle.std.specs.Prelude.{◌≡◌, ◌+◌, ◌*◌, ◌-◌, ◌≤◌, ◌<◌, length, take};
 ghost use Rattle.limits.specs.Limits.{longest_padded};
 ghost use Rattle.poles.specs.Bookkeeping.{poles_in, Sound};

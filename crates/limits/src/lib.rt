@@ -1,4 +1,6 @@
 // The limits that document 01 sets, each by its name, and the axis of one voxel.
+#![tactic(auto)]
+
 ghost use Rattle.std.specs.Prelude.{◌≡◌, ◌≤◌};
 ghost use Rattle.limits.specs.Limits.{longest_padded, single, edge_of, wide_of};
 

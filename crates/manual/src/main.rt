@@ -1,6 +1,8 @@
 // Makes the calls of the file `answers`, whose outputs are SciPy's, and holds each value to SciPy's
 // within 10^-9 of the largest input voxel. Each line has an entry, how many calls are for it, how
 // many numbers were compared, and how many lie outside.
+#![tactic(auto)]
+
 mod near;
 
 use answer_file::load::load;

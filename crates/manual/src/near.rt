@@ -9,7 +9,7 @@ const TOLERANCE: f64 = 0.000000001;
 
 // The values compared so far, those outside the tolerance counted as different, and the widest gap
 // between ours and SciPy's, as a multiple of the largest input voxel of its call.
-#[derive(Drop)]
+#[derive(Clone, Copy)]
 pub struct Held {
     pub replay: Replay,
     pub widest: f64,

@@ -179,7 +179,7 @@ fn lengths_of(text: &[u8], at: usize) -> [usize; 3]
 }
 
 // What a text says: whether it is a header's, and its lengths.
-#[derive(Drop)]
+#[derive(Clone, Copy)]
 pub struct Header {
     pub good: bool,
     pub dims: [usize; 3],

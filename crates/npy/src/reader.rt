@@ -4,7 +4,7 @@ ghost use Rattle.npy.specs.Bookkeeping.{header_in};
 
 use crate::header::{Header, header_at};
 
-#[derive(Drop)]
+#[derive(Clone, Copy)]
 pub struct Reader<'a> {
     pub bytes: &'a [u8],
     pub at: usize,

@@ -1,6 +1,8 @@
 // Reads the files that `answers` holds, writes them again, and compares everything that must come of it.
 // A line has how many records there are; one for each maker, how many of its files are read and how many
 // meet refusals 3, 7 and 10; one for each function, how many numbers were compared, and how many differ.
+#![tactic(auto)]
+
 mod compare;
 mod records;
 

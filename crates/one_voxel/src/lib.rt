@@ -1,6 +1,8 @@
 // One output voxel of `shift` or `zoom`, worked out afresh: no table, no block of voxels, no buffer of
 // its own beyond three records. What is admitted is what the volume engine admits, and no caller has
 // checked anything.
+#![tactic(auto)]
+
 ghost use Rattle.std.specs.Prelude.{◌≡◌, [], ◌∷◌, ◌≤◌, length};
 ghost use Rattle.request.specs.Sizes.{needed};
 ghost use Rattle.refusal.specs.Bookkeeping.{Admitted};
@@ -18,7 +20,7 @@ pub mod point;
 mod sum;
 mod value;
 
-#[derive(Drop)]
+#[derive(Clone, Copy)]
 pub struct Voxel {
     pub value: f64,
     pub code: u8,

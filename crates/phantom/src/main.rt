@@ -1,5 +1,7 @@
 // Demand 3, run: whole shifts move the voxels of a phantom exactly, and the opposite shifts bring them
 // back. Every voxel is compared; `stdout` holds the program to the totals.
+#![tactic(auto)]
+
 ghost use Rattle.std.specs.Prelude.{◌≤◌};
 
 use answer_file::print::{say, say_whole};
@@ -18,7 +20,7 @@ const NO_CODE: u8 = 255;
 
 // How many shifts were run, moved every voxel exactly, and were brought back; how many voxels the
 // shifts counted inside and filled; how many voxels were wrong, there or back.
-#[derive(Drop)]
+#[derive(Clone, Copy)]
 struct Totals {
     shifts: u64,
     moved: u64,

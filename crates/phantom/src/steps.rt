@@ -10,13 +10,13 @@ pub const NEAR: usize = 315;
 pub const ALL: usize = 339;
 
 // A shift along one axis: `up` less `down`, so that neither has a sign.
-#[derive(Drop)]
+#[derive(Clone, Copy)]
 struct Step {
     up: usize,
     down: usize,
 }
 
-#[derive(Drop)]
+#[derive(Clone, Copy)]
 pub struct Steps {
     x: Step,
     y: Step,

@@ -1,11 +1,13 @@
 // The poles of each order, the gain of the filter, and powers of a pole.
+#![tactic(auto)]
+
 ghost use Rattle.std.specs.Prelude.{◌≡◌, ◌≤◌};
 ghost use Rattle.poles.specs.Poles.{poles_of, gain_of};
 ghost use Rattle.poles.specs.Bookkeeping.{poles_in, Sound};
 ghost use Rattle.poles.specs.Power.{power};
 
 // The one or two poles of an order, with their cut-off counts.
-#[derive(Drop)]
+#[derive(Clone, Copy)]
 pub struct Poles {
     pub count: usize,
     pub pole: [f64; 2],

@@ -1,4 +1,6 @@
 // The spline prefilter of a volume, in place: along one axis, and along the three in turn.
+#![tactic(auto)]
+
 ghost use Rattle.std.specs.Prelude.{◌≡◌, false, ◌*◌, ◌≤◌, length};
 ghost use Rattle.limits.specs.Limits.{single};
 ghost use Rattle.lane.specs.Lane.{reflects, filter_lane};

@@ -1,1 +1,2 @@
 // No code: theorems over what the four entries mean. `specs/` has the words that they are stated in.
+#![tactic(auto)]

@@ -1,3 +1,5 @@
 // Recorded calls of the four entries: how they stand in a file, and how one is made.
+#![tactic(auto)]
+
 pub mod calls;
 pub mod lengths;

@@ -1,4 +1,6 @@
 // The refusals, their numbers, and which of them a call meets.
+#![tactic(auto)]
+
 ghost use Rattle.std.specs.Prelude.{◌≡◌};
 ghost use Rattle.refusal.specs.Refusals.{number_of, number_by};
 
@@ -7,7 +9,7 @@ pub mod verdicts;
 
 // In the order in which they are looked for: document 01's nine, 1 to 9, and among them those of document
 // 02, 10 before all, 12 after 4, 11 after all.
-#[derive(Drop)]
+#[derive(Clone, Copy)]
 pub enum Refusal {
     NotNpy,
     Order,
@@ -24,13 +26,13 @@ pub enum Refusal {
 }
 
 // What a caller of shift or zoom wants: every voxel of the output, or one.
-#[derive(Drop)]
+#[derive(Clone, Copy)]
 pub enum Asked {
     Volume,
     Voxel,
 }
 
-#[derive(Drop)]
+#[derive(Clone, Copy)]
 pub enum Verdict {
     Passed,
     Refused(Refusal),

@@ -20,7 +20,7 @@ use resample::number_in;
 const OUTSIDE: u32 = 11;
 
 // The number of the answer, and what the places of value and code hold after it.
-#[derive(Drop)]
+#[derive(Clone, Copy)]
 struct Told {
     number: u32,
     value: f64,
@@ -28,7 +28,7 @@ struct Told {
 }
 
 // A replay, and how many voxels it has asked for.
-#[derive(Drop)]
+#[derive(Clone, Copy)]
 struct Alone {
     replay: Replay,
     voxels: u64,

@@ -2,6 +2,8 @@
 // Each line has an entry, how many calls are for it, how many of these ended in success and in each
 // of the refusals 1 to 9 and 12, how many numbers were compared, and how many differ. Two more lines have
 // the voxels of the shifts and zooms, each asked for alone.
+#![tactic(auto)]
+
 mod alone;
 mod compare;
 

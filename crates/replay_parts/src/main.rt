@@ -1,5 +1,7 @@
 // Replays what the oracle computed, bit for bit: the file `answers`, whose layout README.md has.
 // Each line written has a kind of answer, how many numbers were compared, and how many differ.
+#![tactic(auto)]
+
 mod axes;
 mod filters;
 mod modes;

@@ -1,4 +1,6 @@
 // What a caller asks for, its sizes, and the conditions that refuse it.
+#![tactic(auto)]
+
 use axis::coordinate::Axis;
 use border::BorderMode;
 
@@ -6,7 +8,7 @@ pub mod conditions;
 pub mod sizes;
 
 // `factors` are shifts or zoom factors, one for each axis.
-#[derive(Drop)]
+#[derive(Clone, Copy)]
 pub struct Request {
     pub dims: [usize; 3],
     pub factors: [f64; 3],
@@ -15,7 +17,7 @@ pub struct Request {
     pub mode: BorderMode,
 }
 
-#[derive(Drop)]
+#[derive(Clone, Copy)]
 pub struct Axes {
     pub x: Axis,
     pub y: Axis,

@@ -1,4 +1,6 @@
 // The four entries. Each refuses, or prepares the coefficients and sweeps; no caller has checked anything.
+#![tactic(auto)]
+
 ghost use Rattle.std.specs.Prelude.{◌≡◌};
 ghost use Rattle.resample.specs.Call.{number_in, counts_in, call_of, shift_call, zoom_call, filter_call_of, spline_filter_call, spline_filter1d_call};
 
@@ -16,7 +18,7 @@ use request::sizes::{shift_axes, zoom_axes, zoom_dims};
 mod write;
 
 // The counts of a success, or why there is none.
-#[derive(Drop)]
+#[derive(Clone, Copy)]
 pub enum Answer {
     Done(Counts),
     Refused(Refusal),

@@ -1,12 +1,14 @@
 // A text of bytes, read from left to right: each function takes the place reached and answers the place behind what it
 // read. The end of the text also says that the text did not go on as asked.
+#![tactic(auto)]
+
 ghost use Rattle.std.specs.Prelude.{◌≡◌, drop};
 ghost use Rattle.text.specs.Text.{is_blank, is_spacing, is_digit, is_quote, is_of, past, is_at, expect, literal, quoted};
 
 pub mod numeral;
 
 // Signs that are passed over together.
-#[derive(Drop)]
+#[derive(Clone, Copy)]
 pub enum Kind {
     // a space or a tab
     Blank,

@@ -1,4 +1,6 @@
 // The value of every output voxel: sums, the table of the last axis, the sweep of a volume.
+#![tactic(auto)]
+
 mod sum;
 pub mod sweep;
 mod table;

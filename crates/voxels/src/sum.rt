@@ -12,7 +12,7 @@ ghost use Rattle.voxels.specs.Sum.{lent};
 use limits::LONGEST;
 
 // A number for each of four voxels.
-#[derive(Drop)]
+#[derive(Clone, Copy)]
 pub struct Four {
     pub a: f64,
     pub b: f64,
@@ -21,7 +21,7 @@ pub struct Four {
 }
 
 // A place for each.
-#[derive(Drop)]
+#[derive(Clone, Copy)]
 pub struct Places {
     pub a: usize,
     pub b: usize,

@@ -1,5 +1,7 @@
 // The door for C: the four entries, one voxel of two of them, the files of NumPy, and the lengths of what a caller lends. A slice is a pointer, then a length.
 // No caller has checked anything.
+#![tactic(auto)]
+
 ghost use Rattle.std.specs.Prelude.{◌≡◌, [], ◌∷◌};
 ghost use Rattle.resample.specs.Call.{shift_call, zoom_call, spline_filter_call, spline_filter1d_call};
 ghost use Rattle.one_voxel.specs.Call.{shift_voxel_call, zoom_voxel_call};

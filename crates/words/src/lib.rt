@@ -1,5 +1,7 @@
 // Words of eight bytes, the lowest byte first, read and written. The eight bytes of a word are taken and put one by one,
 // which compiles to one load and one store.
+#![tactic(auto)]
+
 ghost use Rattle.std.specs.Prelude.{◌≡◌, ◌+◌, ◌*◌, ◌%◌, ◌≤◌, length, take, drop};
 ghost use Rattle.words.specs.Words.{word_of, bytes_of, words_of, all_bytes};
 

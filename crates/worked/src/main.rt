@@ -1,6 +1,8 @@
 // Document 01, "Numbers to hold to", and what document 02 adds to them: each request there that is not
 // proved is run through the public entries and printed. `stdout` holds the program to the documents'
 // numbers.
+#![tactic(auto)]
+
 ghost use Rattle.std.specs.Prelude.{◌≡◌, length};
 
 use answer_file::print::{say, say_whole};

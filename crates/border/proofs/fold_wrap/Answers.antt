@@ -1,0 +1,18 @@
+-- `border::fold_wrap` meets its contract.
+use Rattle.exact.proofs.Literals.{zero_bits, one_bits}
+use mathlib.Core.Path.{sym}
+use Rattle.border.specs.Fold.{fold_wrap}
+use borrow.Author.Rules.{rules}
+use Rattle.border.proofs.fold_wrap.Goals as goal
+
+pub returns-then-idx : goal.returns-then-idx
+unfolding fold_wrap
+returns-then-idx c = simp (zero_bits, one_bits, sym c.floor.ensures, c.if-idx.true)
+
+pub returns-then-idx-len : goal.returns-then-idx-len
+unfolding fold_wrap
+returns-then-idx-len c = simp (zero_bits, one_bits, sym c.floor-then-idx-len.ensures, c.if-idx.false, c.if-idx-len.true)
+
+pub returns : goal.returns
+unfolding fold_wrap
+returns c = simp (zero_bits, one_bits, c.if-idx.false, c.if-idx-len.false)

@@ -1,0 +1,10 @@
+-- `text::is_spacing` meets its contract.
+use mathlib.Core.Path.{sym, ◌∙◌}
+use borrow.Author.Rules.{rules}
+use Rattle.text.proofs.is_spacing.Goals as goal
+
+pub returns-then-is_blank : goal.returns-then-is_blank
+returns-then-is_blank c = simp (sym c.is_blank.ensures ∙ c.if-is_blank.true)
+
+pub returns : goal.returns
+returns c = simp (sym c.is_blank.ensures ∙ c.if-is_blank.false)

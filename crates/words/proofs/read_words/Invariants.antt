@@ -1,0 +1,18 @@
+-- `words::read_words` meets its contract: the first i words are those that the bytes write.
+use Prim.Native.Nat.{ℕ, ◌*◌, ◌-◌}
+use mathlib.Core.Path.{◌≡◌, sym, ◌∙◌}
+use borrow.Author.Rules.{rules}
+use native.Mathlib.Omega.{arith}
+use lib.ListN.{length, take, drop, length-set}
+use lib.Seq.{ext_get_or}
+use Rattle.lists.specs.Bookkeeping.{Filled}
+use Rattle.lists.proofs.Stretches.{put}
+use Rattle.words.specs.Words.{word_of, words_of}
+use Rattle.words.proofs.Numbers.{length_words, word_there}
+use Rattle.words.proofs.read_words.Given as goal
+
+abbrev pub invariant-loop-i : goal.invariant-loop-i
+invariant-loop-i l = (length l.words ≡ length l.initial.words) × Filled (λ (m : ℕ). word_of (take 8 (drop (m * 8) l.bytes))) 0 l.words l.i
+
+abbrev pub decreases-loop-i : goal.decreases-loop-i
+decreases-loop-i l = length l.initial.words - l.i
