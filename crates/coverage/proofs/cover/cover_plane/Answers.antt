@@ -7,7 +7,7 @@ use Rattle.lists.specs.Tabulate.{tabulate}
 use Rattle.lists.proofs.Stretches.{next, part_length, Written, none_written, stretch_within, next_written, all_written}
 use Rattle.coverage.specs.Bookkeeping.{joined, code_in_plane}
 use Rattle.coverage.proofs.Covering.{row_filled}
-use Rattle.coverage.proofs.cover.cover_plane.Goals.{After-join-others, In-loop-j}
+use Rattle.coverage.proofs.cover.cover_plane.Goals.{In-loop-j}
 use Rattle.coverage.proofs.cover.cover_plane.Goals as goal
 
 -- row j lies within the plane
@@ -38,15 +38,15 @@ pub slice_bounds-cover_row-end : goal.slice_bounds-cover_row-end
 slice_bounds-cover_row-end c = omega (arith, room (goal.at.slice_bounds-cover_row-end c).In-loop-j)
 
 -- row j is a row long
-row_long : (c : After-join-others) → length (take ((c.loop-j.j + 1) * c.args.row - c.loop-j.j * c.args.row) (drop (c.loop-j.j * c.args.row) c.loop-j.plane)) ≡ c.args.row
+row_long : (c : In-loop-j) → length (take ((c.loop-j.j + 1) * c.args.row - c.loop-j.j * c.args.row) (drop (c.loop-j.j * c.args.row) c.loop-j.plane)) ≡ c.args.row
 row_long c =
     let j = c.loop-j.j in
     let row = c.args.row in
     let k : (j + 1) * row - j * row ≡ row = omega (arith, next j row) in
-    part_length c.loop-j.plane (j * row) ((j + 1) * row - j * row) (omega (arith, room c.before.before)) ∙ k
+    part_length c.loop-j.plane (j * row) ((j + 1) * row - j * row) (omega (arith, room c)) ∙ k
 
 pub cover_row-requires : goal.cover_row-requires
-cover_row-requires c = omega (arith, row_long (goal.at.cover_row-requires c).After-join-others, c.requires)
+cover_row-requires c = omega (arith, row_long (goal.at.cover_row-requires c).In-loop-j, c.requires)
 
 pub loop-j-preserved : goal.loop-j-preserved
 loop-j-preserved c =
@@ -54,7 +54,7 @@ loop-j-preserved c =
     let a = c.args in
     let call = c.cover_row in
     let others = c.join-others.result in
-    let e : call.new.row ≡ tabulate a.row (λ (k : ℕ). joined others (get_or a.zs.now k 0)) = call.ensures ∙ ap (λ (n : ℕ). tabulate n (λ (k : ℕ). joined others (get_or a.zs.now k 0))) (row_long (goal.at.loop-j-preserved c).After-join-others) in (
+    let e : call.new.row ≡ tabulate a.row (λ (k : ℕ). joined others (get_or a.zs.now k 0)) = call.ensures ∙ ap (λ (n : ℕ). tabulate n (λ (k : ℕ). joined others (get_or a.zs.now k 0))) (row_long (goal.at.loop-j-preserved c).In-loop-j) in (
       omega arith,
       next_written (code_in_plane a.first a.ys.now a.zs.now a.row) 0 a.row a.rows l.plane call.new.row l.j (omega arith) l.invariant.1 call.auto.row (row_filled a.first others a.ys.now a.zs.now a.row l.j call.new.row c.join-others.ensures e),
     )
