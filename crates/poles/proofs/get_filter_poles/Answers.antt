@@ -6,32 +6,28 @@ use lib.Dec.{lit≤}
 use lib.Ieee.{of_bits, neg}
 use Rattle.poles.specs.Poles.{poles_of}
 use Rattle.poles.specs.Bookkeeping.{poles_in}
-use Rattle.poles.proofs.get_filter_poles.Statement.{statement}
-use Rattle.poles.proofs.get_filter_poles.Tie as tie
+use Rattle.poles.proofs.get_filter_poles.Goals as goal
 
-returns : tie.Need-returns
+pub returns-in-2 : goal.returns-in-2
 unfolding poles_in poles_of of_bits neg
-returns c =
-    let e : c.before.args.order ≡ 2 = c.match.keys1 in
+returns-in-2 c =
+    let e : c.args.order ≡ 2 = c.in-2.is in
     (record { count = inl refl; first = lit≤ tt; second = λ h. omega arith }, rw e)
 
-returns-2 : tie.Need-returns-2
+pub returns-in-3 : goal.returns-in-3
 unfolding poles_in poles_of of_bits neg
-returns-2 c =
-    let e : c.before.args.order ≡ 3 = c.match.keys2 in
+returns-in-3 c =
+    let e : c.args.order ≡ 3 = c.in-3.is in
     (record { count = inl refl; first = lit≤ tt; second = λ h. omega arith }, rw e)
 
-returns-3 : tie.Need-returns-3
+pub returns-in-4 : goal.returns-in-4
 unfolding poles_in poles_of of_bits neg
-returns-3 c =
-    let e : c.before.args.order ≡ 4 = c.match.keys3 in
+returns-in-4 c =
+    let e : c.args.order ≡ 4 = c.in-4.is in
     (record { count = inr refl; first = lit≤ tt; second = λ h. lit≤ tt }, rw e)
 
-returns-4 : tie.Need-returns-4
+pub returns-in_default : goal.returns-in_default
 unfolding poles_in poles_of of_bits neg
-returns-4 c =
-    let e : c.before.args.order ≡ 5 = omega (arith, c.before.requires) in
+returns-in_default c =
+    let e : c.args.order ≡ 5 = omega (arith, c.requires) in
     (record { count = inr refl; first = lit≤ tt; second = λ h. lit≤ tt }, rw e)
-
-pub get-filter-poles-spec : {M : Type 1} → statement M
-get-filter-poles-spec = tie.close (tie.spec returns returns-2 returns-3 returns-4)
