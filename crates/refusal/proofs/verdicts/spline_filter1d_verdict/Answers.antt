@@ -1,0 +1,14 @@
+-- `refusal::verdicts::spline_filter1d_verdict` meets its contract.
+use mathlib.Core.Path.{◌∙◌}
+use borrow.Author.Tests.{lt-ltb, le-ltb}
+use borrow.Author.Rules.{rules}
+use Rattle.refusal.proofs.verdicts.spline_filter1d_verdict.Goals as goal
+
+pub returns-then-r-gt5 : goal.returns-then-r-gt5
+returns-then-r-gt5 c = simp (lt-ltb _ _ c.if-r-gt5.true)
+
+pub returns-then-axis-gt2 : goal.returns-then-axis-gt2
+returns-then-axis-gt2 c = simp (le-ltb _ _ c.if-r-gt5.false, lt-ltb _ _ c.if-axis-gt2.true)
+
+pub returns : goal.returns
+returns c = c.filter_verdict.ensures ∙ simp (le-ltb _ _ c.if-r-gt5.false, le-ltb _ _ c.if-axis-gt2.false)

@@ -1,0 +1,7 @@
+-- `refusal::verdicts::wild_any` meets its contract.
+use mathlib.Core.Path.{sym, ◌∙◌}
+use borrow.Author.Rules.{rules}
+use Rattle.refusal.proofs.verdicts.wild_any.Goals as goal
+
+pub returns : goal.returns
+returns c = c.some_wild.ensures ∙ simp (sym c.wild_fill.ensures ∙ c.if-wild_fill.false)
