@@ -96,8 +96,7 @@ static void *make_call(void *argument)
     return call->make(call) == VURELIKA_DONE ? argument : NULL;
 }
 
-/* How far from its top the stack of a thread was written. An attribute record is no smaller on Arm,
-   whose headers may serve here, than on x86-64. */
+/* How far from its top the stack of a thread was written. */
 static size_t depth(void *(*start)(void *), const struct call *call)
 {
     unsigned char *stack = aligned_alloc(4096, STACK);

@@ -1,6 +1,6 @@
 /* The mean density of a volume after a shift, and what the codes say in each mode. The scan has 20
  * planes, of densities 0, 10 ... 190, and is shifted by 13.5 planes: 14 of the 20 that come out lie
- * before its first plane. host/build-c builds this, host/run runs it. */
+ * before its first plane. host/build-c builds this. */
 #include <inttypes.h>
 #include <stdio.h>
 

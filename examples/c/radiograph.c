@@ -1,5 +1,5 @@
 /* A radiograph is a volume with an axis of length 1. It is shifted along its rows and columns; along that axis
- * there is nothing to shift. host/build-c builds this, host/run runs it. */
+ * there is nothing to shift. host/build-c builds this. */
 #include <inttypes.h>
 #include <stdio.h>
 

@@ -1,6 +1,6 @@
 /* A first program over the library: shifts a small volume, and says of each voxel that comes out
  * whether it was computed from the input, blends in a folded neighbour, or was filled. host/build-c builds
- * it, host/run runs it. */
+ * it. */
 #include <inttypes.h>
 #include <stdio.h>
 

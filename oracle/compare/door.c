@@ -1,6 +1,6 @@
 /* The library's door, opened to another process: reads requests from standard input, makes the calls,
  * and writes back what they returned and every place of every buffer. `piped.rs` is the other side.
- * Numbers are eight bytes, the low one first, as x86-64 keeps them; floats come as their bits. */
+ * Numbers are eight bytes, the low one first, as the processor keeps them; floats come as their bits. */
 #include <stdint.h>
 #include <stdio.h>
 #include <stdlib.h>

@@ -4,8 +4,7 @@
  *
  * What is lent stands between two pages that cannot be touched: a byte read or written there ends the
  * program. Each file is answered twice, with every buffer against the page before it, and against the page
- * after it. What a function may only read cannot be written. (The constants of mmap and sysconf are the same
- * in Arm's headers, which host/build-c may take.) */
+ * after it. What a function may only read cannot be written. */
 #define _GNU_SOURCE
 #include <stdint.h>
 #include <stdio.h>

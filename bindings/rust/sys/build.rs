@@ -1,4 +1,4 @@
-//! Hands the linker the archive that VURELIKA_LIBRARY names (host/library prints its path).
+//! Hands the linker the archive that VURELIKA_LIBRARY names (host/archive prints its path).
 
 use std::{env, path::Path, process::exit};
 
@@ -11,7 +11,7 @@ fn main() {
         _ => {
             eprintln!(
                 "VURELIKA_LIBRARY must name a file libvurelika.a, and is '{archive}'. In the \
-                 repository: export VURELIKA_LIBRARY=$(host/library)"
+                 repository: export VURELIKA_LIBRARY=$(host/archive)"
             );
             exit(1);
         }

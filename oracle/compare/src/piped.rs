@@ -1,4 +1,4 @@
-//! The library in another process: door.c, which calls the x86-64 archive and is spoken to in
+//! The library in another process: door.c, a C program that calls the archive and is spoken to in
 //! numbers of eight bytes and the raw bytes of the buffers.
 
 use std::io::{self, BufReader, BufWriter, Read, Write};
