@@ -1,0 +1,47 @@
+-- `resample::shift` meets its contract.
+use Prim.Native.Nat.{◌*◌}
+use mathlib.Core.Path.{◌≡◌, ◌∙◌, sym, subst}
+use lib.ListN.{length}
+use Rattle.prefilter.specs.Volume.{count_of}
+use Rattle.request.specs.declared.Axes.{Axes}
+use Rattle.refusal.specs.declared.Asked.TheVariants.{Volume}
+use Rattle.refusal.specs.declared.Verdict.TheVariants.{Passed}
+use Rattle.request.specs.Sizes.{shift_axes}
+use Rattle.refusal.specs.Bookkeeping.{Passes}
+use Rattle.refusal.specs.Refusals.{first, shift_checks}
+use Rattle.resample.specs.Call.{shift_call}
+use Rattle.refusal.proofs.Admitting.{shift_passes}
+use Rattle.resample.proofs.Answering.{call_passed, call_refused}
+use borrow.Author.Rules.{rules}
+use Rattle.resample.proofs.shift.Goals.{In-Passed}
+use Rattle.resample.proofs.shift.Goals as goal
+
+-- nothing was refused
+module _ (c : In-Passed) where
+  cleared : first (shift_checks Volume c.args.r c.args.input.now (length c.args.output.now) (length c.args.coverage.now) (length c.args.work.now)) ≡ Passed
+  cleared = sym c.shift_verdict.ensures ∙ c.in-Passed.is
+
+  passes : Passes c.args.r (shift_axes c.args.r) (count_of c.args.r.dims) (length c.args.input.now) (length c.args.output.now) (length c.args.coverage.now) (length c.args.work.now)
+  passes = shift_passes Volume c.args.r c.args.input.now (length c.args.output.now) (length c.args.coverage.now) (length c.args.work.now) cleared
+
+
+pub shift_axes-requires : goal.shift_axes-requires
+shift_axes-requires c = (passes c).admitted.lengths
+
+pub write-requires : goal.write-requires
+write-requires c =
+    let a = c.args in
+    subst (λ (x : Axes). Passes a.r x (x.x.out * (x.y.out * x.z.out)) (length a.input.now) (length a.output.now) (length a.coverage.now) (length a.work.now)) (sym c.shift_axes.ensures) (passes (goal.at.write-requires c).In-Passed)
+
+pub returns-in-Passed : goal.returns-in-Passed
+unfolding shift_call
+returns-in-Passed c =
+    let a = c.args in
+    let axes = c.shift_axes in
+    call_passed a.r a.input.now a.output.now a.coverage.now a.work.now axes.result (shift_axes a.r) (cleared (goal.at.returns-in-Passed c).In-Passed) axes.ensures c.write.ensures
+
+pub returns-in-Refused : goal.returns-in-Refused
+unfolding shift_call
+returns-in-Refused c =
+    let a = c.args in
+    call_refused a.r a.input.now a.output.now a.coverage.now a.work.now (shift_axes a.r) c.in-Refused.why (sym c.shift_verdict.ensures ∙ c.in-Refused.is)
