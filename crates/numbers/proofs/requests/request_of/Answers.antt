@@ -1,0 +1,6 @@
+-- `numbers::requests::request_of` meets its contract.
+use borrow.Author.Rules.{rules}
+use Rattle.numbers.proofs.requests.request_of.Goals as goal
+
+pub returns : goal.returns
+returns c = simp c.mode_of.ensures
