@@ -12,7 +12,6 @@ use Rattle.refusal.specs.Refusals.{first, shift_checks}
 use Rattle.resample.specs.Call.{shift_call}
 use Rattle.refusal.proofs.Admitting.{shift_passes}
 use Rattle.resample.proofs.Answering.{call_passed, call_refused}
-use borrow.Author.Rules.{rules}
 use Rattle.resample.proofs.shift.Goals.{In-Passed}
 use Rattle.resample.proofs.shift.Goals as goal
 
@@ -23,7 +22,6 @@ module _ (c : In-Passed) where
 
   passes : Passes c.args.r (shift_axes c.args.r) (count_of c.args.r.dims) (length c.args.input.now) (length c.args.output.now) (length c.args.coverage.now) (length c.args.work.now)
   passes = shift_passes Volume c.args.r c.args.input.now (length c.args.output.now) (length c.args.coverage.now) (length c.args.work.now) cleared
-
 
 pub shift_axes-requires : goal.shift_axes-requires
 shift_axes-requires c = (passes c).admitted.lengths

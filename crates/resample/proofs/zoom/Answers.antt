@@ -14,7 +14,6 @@ use Rattle.refusal.specs.Refusals.{first, zoom_checks}
 use Rattle.resample.specs.Call.{zoom_call}
 use Rattle.refusal.proofs.Admitting.{zoom_passes, zoom_ready}
 use Rattle.resample.proofs.Answering.{call_passed, call_refused}
-use borrow.Author.Rules.{rules}
 use Rattle.resample.proofs.zoom.Goals.{In-Passed}
 use Rattle.resample.proofs.zoom.Goals as goal
 
@@ -28,7 +27,6 @@ module _ (c : In-Passed) where
 
   ready : Zoomed c.args.r × Lengths (zoom_dims c.args.r)
   ready = zoom_ready Volume c.args.r c.args.input.now (length c.args.output.now) (length c.args.coverage.now) (length c.args.work.now) cleared
-
 
 pub zoom_dims-requires : goal.zoom_dims-requires
 zoom_dims-requires c = (ready c).0

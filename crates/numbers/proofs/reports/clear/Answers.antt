@@ -3,7 +3,6 @@ use mathlib.Core.Path.{ap, ◌∙◌}
 use borrow.Author.Tests.{eq-eqb, ne_eqb}
 use Rattle.coverage.specs.declared.counts.Counts.{Counts}
 use Rattle.numbers.specs.Numbers.{tally, cleared}
-use borrow.Author.Rules.{rules}
 use Rattle.numbers.proofs.reports.clear.Goals as goal
 
 pub returns-then-counts-eq-PLACES : goal.returns-then-counts-eq-PLACES

@@ -1,5 +1,4 @@
 -- `numbers::reports::put` meets its contract: what was in the places is gone.
-use borrow.Author.Rules.{rules}
 use Rattle.lists.proofs.Stretches.{four_stored}
 use Rattle.numbers.proofs.reports.put.Goals as goal
 

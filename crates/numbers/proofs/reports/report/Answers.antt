@@ -2,7 +2,6 @@
 use mathlib.Core.Path.{ap, ◌∙◌}
 use Rattle.coverage.specs.declared.counts.Counts.{Counts}
 use Rattle.numbers.specs.Numbers.{tally}
-use borrow.Author.Rules.{rules}
 use Rattle.numbers.proofs.reports.report.Goals as goal
 
 pub returns : goal.returns

@@ -1,5 +1,4 @@
 -- `numbers::requests::request_of` meets its contract.
-use borrow.Author.Rules.{rules}
 use Rattle.numbers.proofs.requests.request_of.Goals as goal
 
 pub returns : goal.returns

@@ -1,7 +1,6 @@
 -- `refusal::points::beside` meets its contract.
 use mathlib.Core.Path.{◌∙◌}
 use borrow.Author.Tests.{eq-eqb, ne_eqb}
-use borrow.Author.Rules.{rules}
 use Rattle.refusal.proofs.points.beside.Goals as goal
 
 pub returns-then-order-ne0 : goal.returns-then-order-ne0

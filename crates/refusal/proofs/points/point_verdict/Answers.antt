@@ -1,6 +1,5 @@
 -- `refusal::points::point_verdict` meets its contract.
 use mathlib.Core.Path.{refl, sym, ◌∙◌}
-use borrow.Author.Rules.{rules}
 use Rattle.refusal.specs.declared.Refusal.TheVariants.{Buffer, Beside, Index}
 use Rattle.refusal.proofs.Firsts.{skip, stop}
 use Rattle.refusal.proofs.points.point_verdict.Goals as goal

@@ -3,7 +3,6 @@ use mathlib.Core.Path.{◌≡◌, sym, ◌∙◌}
 use mathlib.Core.Bool.{false}
 use lib.Dec.{ltb}
 use borrow.Author.Tests.{lt-ltb, le-ltb}
-use borrow.Author.Rules.{rules}
 use Rattle.axis.proofs.Coordinates.{pad_most}
 use Rattle.request.specs.Conditions.{bad_length, bad_shift, moves_slice}
 use Rattle.request.proofs.Requests.{good_length}

@@ -3,7 +3,6 @@ use mathlib.Core.Path.{◌≡◌, sym, ap, ◌∙◌}
 use mathlib.Core.Bool.{false}
 use lib.Dec.{ltb}
 use borrow.Author.Tests.{lt-ltb, le-ltb}
-use borrow.Author.Rules.{rules}
 use Rattle.axis.specs.Length.{output_length}
 use Rattle.axis.proofs.Coordinates.{pad_most}
 use Rattle.request.specs.Conditions.{bad_length, bad_zoom, zooms_slice, bad_output}

@@ -1,7 +1,6 @@
 -- `refusal::verdicts::beside_any` meets its contract.
 use mathlib.Core.Path.{sym, ◌∙◌}
 use borrow.Author.Tests.{eq-eqb, ne_eqb}
-use borrow.Author.Rules.{rules}
 use Rattle.request.specs.Conditions.{beside_any}
 use Rattle.refusal.proofs.verdicts.beside_any.Goals as goal
 

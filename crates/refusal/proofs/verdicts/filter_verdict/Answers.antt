@@ -4,7 +4,6 @@ use mathlib.Core.Path.{◌≡◌, sym, ap, ◌∙◌}
 use mathlib.Core.Bool.{false, ◌||◌}
 use lib.ListN.{length}
 use borrow.Author.Tests.{eq-eqb, ne_eqb}
-use borrow.Author.Rules.{rules}
 use Rattle.prefilter.specs.Volume.{count_of}
 use Rattle.request.specs.Conditions.{bad_lengths, too_large, wrong}
 use Rattle.request.proofs.Requests.{small, good_lengths}

@@ -3,7 +3,6 @@ use mathlib.Core.Path.{refl, sym, ◌∙◌}
 use Rattle.refusal.specs.declared.Refusal.TheVariants.{Index}
 use Rattle.refusal.specs.declared.Verdict.TheVariants.{Passed}
 use Rattle.refusal.proofs.Firsts.{skip, stop}
-use borrow.Author.Rules.{rules}
 use Rattle.refusal.proofs.verdicts.index_verdict.Goals as goal
 
 pub returns-then-bad_indices : goal.returns-then-bad_indices

@@ -4,7 +4,6 @@ use mathlib.Core.Bool.{false, ◌||◌}
 use mathlib.Core.List.{[], ◌∷◌}
 use lib.Dec.{ltb}
 use lib.ListN.{length}
-use borrow.Author.Rules.{rules}
 use Rattle.prefilter.specs.Volume.{count_of}
 use Rattle.refusal.specs.declared.Refusal.TheVariants.{Count, Buffer, Value, Beside}
 use Rattle.refusal.specs.declared.Verdict.{Verdict}

@@ -3,7 +3,6 @@ use mathlib.Core.Path.{◌≡◌, sym, ◌∙◌}
 use mathlib.Core.Bool.{false}
 use lib.Dec.{ltb}
 use borrow.Author.Tests.{lt-ltb, le-ltb}
-use borrow.Author.Rules.{rules}
 use Rattle.request.specs.Conditions.{bad_lengths, bad_shift, bad_factors, moves_slices}
 use Rattle.request.proofs.Requests.{good_lengths}
 use Rattle.refusal.proofs.verdicts.shift_verdict.Goals.{Else-bad_lengths, Else-bad_shifts, Else-moves_slices, Else-r-gt5}

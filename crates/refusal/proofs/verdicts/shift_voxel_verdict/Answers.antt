@@ -4,7 +4,6 @@ use mathlib.Core.List.{List}
 use Rattle.refusal.specs.declared.Asked.TheVariants.{Voxel}
 use Rattle.refusal.specs.Refusals.{Check, shift_checks, index_checks}
 use Rattle.refusal.proofs.Firsts.{passed_on, refused_before}
-use borrow.Author.Rules.{rules}
 use Rattle.refusal.proofs.verdicts.shift_voxel_verdict.Goals.{Start}
 use Rattle.refusal.proofs.verdicts.shift_voxel_verdict.Goals as goal
 
@@ -14,7 +13,6 @@ module _ (s : Start) where
 
   abbrev last : List Check
   last = index_checks s.args.r.dims s.args.at
-
 
 pub returns-in-Passed : goal.returns-in-Passed
 returns-in-Passed c =

@@ -1,6 +1,5 @@
 -- `refusal::verdicts::some_too_large` meets its contract.
 use mathlib.Core.Path.{sym, ◌∙◌}
-use borrow.Author.Rules.{rules}
 use Rattle.refusal.proofs.verdicts.some_too_large.Goals as goal
 
 pub returns-then-too_large : goal.returns-then-too_large

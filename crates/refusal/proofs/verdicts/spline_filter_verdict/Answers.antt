@@ -1,7 +1,6 @@
 -- `refusal::verdicts::spline_filter_verdict` meets its contract.
 use mathlib.Core.Path.{◌∙◌}
 use borrow.Author.Tests.{lt-ltb, le-ltb}
-use borrow.Author.Rules.{rules}
 use Rattle.refusal.proofs.verdicts.spline_filter_verdict.Goals as goal
 
 pub returns-then-r-lt2 : goal.returns-then-r-lt2

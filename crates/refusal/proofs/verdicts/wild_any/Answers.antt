@@ -1,6 +1,5 @@
 -- `refusal::verdicts::wild_any` meets its contract.
 use mathlib.Core.Path.{sym, ◌∙◌}
-use borrow.Author.Rules.{rules}
 use Rattle.refusal.proofs.verdicts.wild_any.Goals as goal
 
 pub returns : goal.returns

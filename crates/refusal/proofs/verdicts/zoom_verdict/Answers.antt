@@ -3,7 +3,6 @@ use mathlib.Core.Path.{◌≡◌, sym, ap, ◌∙◌}
 use mathlib.Core.Bool.{false}
 use lib.Dec.{ltb}
 use borrow.Author.Tests.{lt-ltb, le-ltb}
-use borrow.Author.Rules.{rules}
 use Rattle.request.specs.Sizes.{zoom_dims}
 use Rattle.request.specs.Conditions.{bad_lengths, bad_zoom, bad_factors, zooms_slices, bad_outputs}
 use Rattle.request.proofs.Requests.{good_lengths, good_outputs, good_zooms}

@@ -7,7 +7,6 @@ use Rattle.refusal.specs.declared.Asked.TheVariants.{Voxel}
 use Rattle.refusal.specs.Refusals.{Check, first, zoom_checks, index_checks}
 use Rattle.refusal.proofs.Admitting.{zoom_ready}
 use Rattle.refusal.proofs.Firsts.{passed_on, refused_before}
-use borrow.Author.Rules.{rules}
 use Rattle.refusal.proofs.verdicts.zoom_voxel_verdict.Goals.{Start}
 use Rattle.refusal.proofs.verdicts.zoom_voxel_verdict.Goals as goal
 
@@ -17,7 +16,6 @@ module _ (s : Start) where
 
   abbrev last : List ℕ → List Check
   last out = index_checks out s.args.at
-
 
 pub zoom_dims-requires : goal.zoom_dims-requires
 zoom_dims-requires c =

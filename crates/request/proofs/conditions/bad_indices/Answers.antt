@@ -6,7 +6,6 @@ use mathlib.Core.List.{List}
 use lib.ListN.{get_or}
 use Rattle.request.specs.Conditions.{bad_index, bad_indices}
 use Rattle.request.proofs.Deciding.{at_first, at_second, at-third}
-use borrow.Author.Rules.{rules}
 use Rattle.request.proofs.conditions.bad_indices.Goals as goal
 
 abbrev bad : List ℕ → List ℕ → ℕ → Bool

@@ -4,7 +4,6 @@ use mathlib.Core.Path.{sym, ◌∙◌}
 use lib.ListN.{get_or}
 use Rattle.request.specs.Conditions.{bad_length, bad_lengths}
 use Rattle.request.proofs.Deciding.{at_first, at_second, at-third}
-use borrow.Author.Rules.{rules}
 use Rattle.request.proofs.conditions.bad_lengths.Goals as goal
 
 pub returns-then-bad_length : goal.returns-then-bad_length

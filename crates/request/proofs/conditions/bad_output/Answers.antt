@@ -1,7 +1,6 @@
 -- `request::conditions::bad_output` meets its contract.
 use mathlib.Core.Path.{sym, ◌∙◌}
 use borrow.Author.Tests.{lt-ltb, le-ltb}
-use borrow.Author.Rules.{rules}
 use Rattle.request.proofs.conditions.bad_output.Goals as goal
 
 pub returns-then-is_single : goal.returns-then-is_single

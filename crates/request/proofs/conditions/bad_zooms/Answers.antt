@@ -5,7 +5,6 @@ use lib.ListN.{get_or}
 use lib.Ieee.{nan}
 use Rattle.request.specs.Conditions.{bad_zoom, bad_factors}
 use Rattle.request.proofs.Deciding.{at_first, at_second, at-third}
-use borrow.Author.Rules.{rules}
 use Rattle.request.proofs.conditions.bad_zooms.Goals as goal
 
 pub returns-then-bad_zoom : goal.returns-then-bad_zoom

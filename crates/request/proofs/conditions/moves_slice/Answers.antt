@@ -1,7 +1,6 @@
 -- `request::conditions::moves_slice` meets its contract.
 use mathlib.Core.Path.{sym, ◌∙◌}
 use lib.Ieee.{of_bits, of_int, ne}
-use borrow.Author.Rules.{rules}
 use Rattle.request.proofs.conditions.moves_slice.Goals as goal
 
 pub returns-then-is_single : goal.returns-then-is_single

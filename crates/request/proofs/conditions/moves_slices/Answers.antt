@@ -7,7 +7,6 @@ use lib.ListN.{get_or}
 use lib.Ieee.{Float, nan}
 use Rattle.request.specs.Conditions.{moves_slice, moves_slices}
 use Rattle.request.proofs.Deciding.{at_first, at_second, at-third}
-use borrow.Author.Rules.{rules}
 use Rattle.request.proofs.conditions.moves_slices.Goals as goal
 
 abbrev bad : List ℕ → List Float → ℕ → Bool

@@ -1,6 +1,5 @@
 -- `request::conditions::zooms_slice` meets its contract.
 use mathlib.Core.Path.{sym, ◌∙◌}
-use borrow.Author.Rules.{rules}
 use Rattle.request.proofs.conditions.zooms_slice.Goals as goal
 
 pub returns-then-is_single : goal.returns-then-is_single

@@ -1,6 +1,5 @@
 -- `request::sizes::count_of` meets its contract.
 use native.Mathlib.Omega.{arith}
-use borrow.Author.Rules.{rules}
 use Rattle.request.proofs.Requests.{area_most, count_most}
 use Rattle.request.proofs.sizes.count_of.Goals as goal
 

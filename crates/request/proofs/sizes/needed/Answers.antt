@@ -2,7 +2,6 @@
 use Prim.Native.Nat.{ℕ}
 use mathlib.Core.List.{List}
 use mathlib.Core.Path.{◌∙◌, sym, ap, subst}
-use borrow.Author.Rules.{rules}
 use Rattle.prefilter.specs.Volume.{count_of}
 use Rattle.request.specs.Bookkeeping.{Small}
 use Rattle.request.proofs.Requests.{source_small}

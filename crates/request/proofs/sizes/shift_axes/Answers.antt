@@ -1,7 +1,6 @@
 -- `request::sizes::shift_axes` meets its contract.
 use lib.Dec.{lit≤}
 use Rattle.request.proofs.Requests.{padding_most}
-use borrow.Author.Rules.{rules}
 use Rattle.request.proofs.sizes.shift_axes.Goals as goal
 
 pub shift_axis-requires : goal.shift_axis-requires

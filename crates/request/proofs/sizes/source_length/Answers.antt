@@ -2,7 +2,6 @@
 use Prim.Native.Nat.{◌≤◌}
 use native.Mathlib.Omega.{arith}
 use Rattle.request.proofs.Requests.{padding_most}
-use borrow.Author.Rules.{rules}
 use Rattle.request.proofs.sizes.source_length.Goals.{After-padding}
 use Rattle.request.proofs.sizes.source_length.Goals as goal
 

@@ -1,7 +1,6 @@
 -- `request::sizes::zoom_axes` meets its contract.
 use lib.Dec.{lit≤}
 use Rattle.request.proofs.Requests.{padding_most}
-use borrow.Author.Rules.{rules}
 use Rattle.request.proofs.sizes.zoom_axes.Goals as goal
 
 pub zoom_axis-requires : goal.zoom_axis-requires

@@ -1,6 +1,5 @@
 -- `request::sizes::zoom_dims` meets its contract.
 use lib.Dec.{lit≤}
-use borrow.Author.Rules.{rules}
 use Rattle.request.proofs.sizes.zoom_dims.Goals as goal
 
 pub output_length-requires : goal.output_length-requires

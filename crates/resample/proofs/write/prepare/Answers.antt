@@ -1,7 +1,6 @@
 -- `resample::write::prepare` meets its contract.
 use mathlib.Core.Path.{◌∙◌}
 use Rattle.resample.proofs.Preparing.{source_sized, filters_from_2, filtered}
-use borrow.Author.Rules.{rules}
 use Rattle.resample.proofs.write.prepare.Goals as goal
 
 pub filter_volume-requires : goal.filter_volume-requires

@@ -2,7 +2,6 @@
 use mathlib.Core.Path.{◌∙◌, sym}
 use Rattle.request.proofs.Requests.{plain_count}
 use Rattle.resample.proofs.Preparing.{source_plain, padded_count, source-padded, sized}
-use borrow.Author.Rules.{rules}
 use Rattle.resample.proofs.write.take_source.Goals as goal
 
 pub pad-requires : goal.pad-requires

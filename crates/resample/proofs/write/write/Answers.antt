@@ -1,5 +1,4 @@
 -- `resample::write::write` meets its contract.
-use borrow.Author.Rules.{rules}
 use Rattle.resample.specs.declared.Answer.TheVariants.{Done}
 use Rattle.resample.specs.Call.{call_of}
 use Rattle.resample.proofs.write.write.Goals as goal

@@ -3,7 +3,6 @@ use Prim.Native.Nat.{ℕ}
 use mathlib.Core.Path.{◌∙◌, ap}
 use mathlib.Core.List.{List}
 use Rattle.coverage.specs.Coverage.{counts_of}
-use borrow.Author.Rules.{rules}
 use Rattle.resample.proofs.write.write_codes.Goals as goal
 
 pub returns : goal.returns

@@ -3,7 +3,6 @@ use mathlib.Core.Path.{◌∙◌, ap}
 use mathlib.Core.List.{List}
 use lib.Ieee.{Float}
 use Rattle.voxels.specs.Voxel.{values}
-use borrow.Author.Rules.{rules}
 use Rattle.resample.proofs.write.write_filtered.Goals as goal
 
 pub sweep-requires : goal.sweep-requires

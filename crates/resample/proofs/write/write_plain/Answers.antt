@@ -5,7 +5,6 @@ use lib.Ieee.{Float}
 use Rattle.voxels.specs.Voxel.{values}
 use Rattle.request.proofs.Requests.{plain_edges, plain_count}
 use Rattle.resample.proofs.Preparing.{unfiltered}
-use borrow.Author.Rules.{rules}
 use Rattle.resample.proofs.write.write_plain.Goals as goal
 
 pub sweep-requires : goal.sweep-requires

@@ -5,7 +5,6 @@ use native.Mathlib.Omega.{arith}
 use Rattle.lists.proofs.Stretches.{part_length}
 use Rattle.request.proofs.Requests.{needed_all}
 use Rattle.resample.proofs.Preparing.{work_begins, work_stays}
-use borrow.Author.Rules.{rules}
 use Rattle.resample.proofs.write.write_values.Goals as goal
 
 pub write_filtered-requires : goal.write_filtered-requires
