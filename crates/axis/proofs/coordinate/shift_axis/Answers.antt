@@ -1,0 +1,8 @@
+-- `axis::coordinate::shift_axis` meets its contract.
+use Rattle.std.proofs.Common.{refl, rules}
+use lib.Ieee.{of_bits, of_int}
+use Rattle.axis.proofs.coordinate.shift_axis.Goals as goal
+
+pub returns : goal.returns
+unfolding of_bits of_int
+returns c = rw c.float_of.ensures refl

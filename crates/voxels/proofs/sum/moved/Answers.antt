@@ -1,0 +1,20 @@
+-- `voxels::sum::moved` meets its contract: each sum is below `end`, so that it fits.
+use mathlib.Core.Path.{refl}
+use native.Mathlib.Omega.{arith}
+use Rattle.voxels.proofs.Sums.{in_each}
+use Rattle.voxels.proofs.sum.moved.Goals as goal
+
+pub overflow_add-result : goal.overflow_add-result
+overflow_add-result c = omega (arith, c.requires 0)
+
+pub overflow_add-result-2 : goal.overflow_add-result-2
+overflow_add-result-2 c = omega (arith, c.requires 1)
+
+pub overflow_add-result-3 : goal.overflow_add-result-3
+overflow_add-result-3 c = omega (arith, c.requires 2)
+
+pub overflow_add-result-4 : goal.overflow_add-result-4
+overflow_add-result-4 c = omega (arith, c.requires 3)
+
+pub returns : goal.returns
+returns c = in_each _ refl refl refl (λ j. refl)

@@ -1,0 +1,21 @@
+-- `voxels::sweep::sum_row` meets its contract: the blocks so far are written.
+use Prim.Native.Nat.{ℕ, ◌+◌, ◌-◌}
+use mathlib.Core.Path.{◌≡◌, ◌∙◌, refl, subst, sym}
+use mathlib.Core.Bool.{false, cond}
+use mathlib.Core.List.{List}
+use native.Mathlib.Nat.{not-suc-le-zero}
+use native.Mathlib.Omega.{arith}
+use lib.ListN.{length, get_or}
+use lib.Ieee.{Float, nan}
+use Rattle.lists.proofs.Tabulated.{is_tabulate}
+use Rattle.voxels.specs.Sum.{sum_at}
+use Rattle.voxels.specs.Bookkeeping.{column}
+use Rattle.voxels.specs.Sum.{lent}
+use Rattle.voxels.proofs.Sweeping.{Upto, put_block}
+use Rattle.voxels.proofs.sweep.sum_row.Given as goal
+
+abbrev pub invariant-loop-o : goal.invariant-loop-o
+invariant-loop-o l = (length l.out ≡ length l.initial.out) × Upto (λ (m : ℕ). cond (get_or l.kept m false) (sum_at l.data l.plane l.row l.n (lent l.nx l.wx) (lent l.ny l.wy) (column l.at l.weight m)) l.dropped) nan l.out l.o
+
+abbrev pub decreases-loop-o : goal.decreases-loop-o
+decreases-loop-o l = length l.initial.out - l.o
