@@ -6,7 +6,7 @@ use Rattle.lists.specs.Tabulate.{tabulate}
 use Rattle.border.specs.declared.BorderMode.{BorderMode}
 use Rattle.axis.specs.declared.coordinate.Axis.{Axis}
 use Rattle.axis.specs.declared.point.Point.{Point}
-use Rattle.axis.specs.Coordinate.{coordinate, settled, kept}
+use Rattle.axis.specs.Coordinate.{settled, kept}
 use Rattle.axis.specs.Weights.{order_on, build_splines}
 use Rattle.axis.specs.Neighbours.{first_neighbour, outside, neighbour_index}
 

@@ -3,7 +3,7 @@ use Rattle.std.proofs.Common.{◌≡◌, ℕ, zero, suc, ◌+◌, ◌-◌, ◌*�
 use mathlib.Core.Logic.{dite}
 use Prim.Native.Nat.{compare}
 use native.Mathlib.Decide.{dec_le, dec_lt}
-use lib.Ieee.{Float, nan, inf, fin, binary64, up, down, below, round, lt, size, nearest, units}
+use lib.Ieee.{Float, nan, inf, fin, binary64, up, down, round, lt, size, nearest, units}
 use lib.Ieee.Exact.{HasValue, units_val}
 use lib.Ieee.Fits.{down_pos, core, round_is, round-fits}
 use lib.Ieee.Back.{round_whole}

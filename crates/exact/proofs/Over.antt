@@ -2,7 +2,7 @@
 use Rattle.std.proofs.Common.{◌≡◌, ℕ, zero, suc, ◌-◌, ◌*◌, ◌^◌, ◌<◌, ◌≤◌, Bool, true, false, cond, not, ◌&&◌, ◌||◌, T, eqb, ltb, leb, ℤ, pos, negsuc, nat_abs, sym, refl, ap, ◌∙◌, subst, suc-le-suc, zero-le, le_trans, le_of_eq, lt_of_le_of_lt, mul-le-mul_right, zero-lt-suc, mul_assoc, mul-pos, one-mul, zero-mul, mul-one, mul_right_comm, lit<, le→leb, leb→le, le-ltb, lt-ltb}
 use native.Mathlib.Nat.{eq_of_mul-eq-mul_right}
 use lib.Pow.{pow-lt}
-use lib.Ieee.{Float, nan, inf, fin, binary64, up, down, below, level, round, sum, neg, lt, le, fits, size}
+use lib.Ieee.{Float, nan, inf, fin, binary64, up, down, below, level, round, sum, neg, lt, le, fits}
 use lib.Ieee.Exact.{HasValue}
 use lib.Ieee.Fits.{down_pos, eq→eqb, and_i}
 use lib.Ieee.Back.{round_whole}

@@ -1,7 +1,6 @@
 -- Reading a text of bytes from left to right. Each step says what of the text is left behind it. Where the text does not go on as asked nothing is left, and from nothing no step reads on.
 use Rattle.std.specs.Prelude.{ℕ, Bool, true, false, not, ◌&&◌, ◌||◌, cond, List, [], ◌∷◌, eqb, ltb, leb}
 use Prim.Native.Char.{code}
-use Prim.Native.String as String
 use Prim.Native.String.{String}
 use Rattle.text.specs.declared.Kind.{Kind}
 use Rattle.text.specs.declared.Kind.TheVariants.{Blank, Spacing, Digit}

@@ -4,7 +4,6 @@ use lib.Ieee.{of_bits, of_int}
 use Rattle.exact.proofs.Literals.{zero_bits}
 use Rattle.border.specs.Fold.{fold_mirror}
 use Rattle.border.proofs.Arms.{mirror_under, mirror_over}
-use borrow.Author.Rules.{rules}
 use Rattle.border.proofs.fold_mirror.Goals as goal
 
 pub returns-then-t-len : goal.returns-then-t-len

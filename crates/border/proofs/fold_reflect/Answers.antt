@@ -5,7 +5,6 @@ use lib.Ieee.{of_bits, of_int}
 use Rattle.exact.proofs.Literals.{zero_bits}
 use Rattle.border.specs.Fold.{fold_reflect, reflect_under}
 use Rattle.border.proofs.Arms.{reflect-under, reflect_far, reflect_near, reflect_over}
-use borrow.Author.Rules.{rules}
 use Rattle.border.proofs.fold_reflect.Goals.{Joined-idx-s2, then-idx-s2, else-idx-s2}
 use Rattle.border.proofs.fold_reflect.Goals as goal
 
@@ -14,9 +13,10 @@ stands : (c : Joined-idx-s2) → c.if-idx-s2.t ≡ reflect_under c.args.idx c.ar
 unfolding of_bits of_int
 stands c =
     let a = c.args in
-    elim c.if-idx-s2.branch
-    [ then-idx-s2 w ↦ w.t-is ∙ reflect_far a.idx a.len w.floor.result w.floor.ensures w.if-idx-s2.true
-    | else-idx-s2 w ↦ w.t-is ∙ reflect_near a.idx a.len a.idx w.if-idx-s2.false ]
+    elim c.if-idx-s2.branch [
+      | then-idx-s2 w ↦ w.t-is ∙ reflect_far a.idx a.len w.floor.result w.floor.ensures w.if-idx-s2.true
+      | else-idx-s2 w ↦ w.t-is ∙ reflect_near a.idx a.len a.idx w.if-idx-s2.false
+    ]
 
 pub returns-then-t-len : goal.returns-then-t-len
 unfolding of_bits of_int

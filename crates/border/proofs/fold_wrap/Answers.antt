@@ -2,7 +2,6 @@
 use Rattle.exact.proofs.Literals.{zero_bits, one_bits}
 use mathlib.Core.Path.{sym}
 use Rattle.border.specs.Fold.{fold_wrap}
-use borrow.Author.Rules.{rules}
 use Rattle.border.proofs.fold_wrap.Goals as goal
 
 pub returns-then-idx : goal.returns-then-idx

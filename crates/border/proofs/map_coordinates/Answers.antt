@@ -3,7 +3,6 @@ use mathlib.Core.Path.{◌≡◌, ◌∙◌, sym, ap}
 use lib.Ieee.{Float}
 use Rattle.border.specs.declared.BorderMode.{BorderMode}
 use Rattle.border.specs.Fold.{fold}
-use borrow.Author.Rules.{rules}
 use Rattle.border.proofs.map_coordinates.Goals as goal
 
 -- an arm's result is the fold's, since the mode is that arm's

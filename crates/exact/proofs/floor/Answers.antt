@@ -1,5 +1,5 @@
 -- `exact::floor` meets its contract. Within ±2 ^ 53 the function cuts x to a whole number and compares that with x, and past it x is whole (`Floors`).
-use Rattle.std.proofs.Common.{◌≡◌, ℤ, pos, sym, refl, ap, ◌∙◌, true≢false, lit<, w64, to_z, of_z, rules}
+use Rattle.std.proofs.Common.{◌≡◌, ℤ, pos, sym, refl, ap, ◌∙◌, true≢false, lit<, w64, to_z, of_z}
 use lib.Ieee.{Float, binary64, of_bits, neg, le, lt, eq, sub, fits, of_int, to_signed}
 use lib.Ieee.Casts.{to_signed_in}
 use mir.ValLaws.{to_z-of_z}

@@ -1,5 +1,5 @@
 -- `exact::nearest_whole` meets its contract: each return is what its tests choose (`Rounds`).
-use Rattle.std.proofs.Common.{◌≡◌, Bool, pos, refl, ap, ◌∙◌, rules}
+use Rattle.std.proofs.Common.{◌≡◌, Bool, pos, refl, ap, ◌∙◌}
 use lib.Ieee.{Float, binary64, of_bits, of_int, add, mul, lt, eq}
 use Rattle.exact.specs.Whole.{W}
 use Rattle.exact.specs.Round.{round_ties_even_f}

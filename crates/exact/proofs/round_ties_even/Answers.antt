@@ -1,5 +1,5 @@
 -- `exact::round_ties_even` meets its contract: of a number below 0 it rounds the negative, and negates.
-use Rattle.std.proofs.Common.{Bool, not, T, sym, ap, ◌∙◌, subst, rules}
+use Rattle.std.proofs.Common.{Bool, not, T, sym, ap, ◌∙◌, subst}
 use lib.Ieee.{of_bits, neg}
 use Rattle.exact.specs.Round.{round_ties_even_f}
 use Rattle.exact.proofs.Rounds.{rounded_neg, neg-neg, neg-not_below}

@@ -1,6 +1,5 @@
 -- `limits::edge_of` meets its contract.
 use mathlib.Core.Path.{◌∙◌, sym}
-use borrow.Author.Rules.{rules}
 use Rattle.limits.proofs.Singles.{edge_single, edge_long}
 use Rattle.limits.proofs.edge_of.Goals as goal
 

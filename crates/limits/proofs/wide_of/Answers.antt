@@ -1,7 +1,6 @@
 -- `limits::wide_of` meets its contract.
 use Prim.Native.Nat.{◌≤◌}
 use native.Mathlib.Omega.{arith}
-use borrow.Author.Rules.{rules}
 use Rattle.limits.proofs.Singles.{edge_most}
 use Rattle.limits.proofs.wide_of.Goals.{After-edge_of}
 use Rattle.limits.proofs.wide_of.Goals as goal

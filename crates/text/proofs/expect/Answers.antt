@@ -1,6 +1,5 @@
 -- `text::expect` meets its contract.
 use native.Mathlib.Omega.{arith}
-use borrow.Author.Rules.{rules}
 use Rattle.text.proofs.Texts.{expect_there, expect_other, expect_end}
 use Rattle.text.proofs.expect.Goals as goal
 

@@ -1,5 +1,4 @@
 -- `text::is_at` meets its contract.
-use borrow.Author.Rules.{rules}
 use Rattle.text.proofs.Texts.{is_there, none_there}
 use Rattle.text.proofs.is_at.Goals as goal
 

@@ -1,6 +1,5 @@
 -- `text::is_spacing` meets its contract.
 use mathlib.Core.Path.{sym, ◌∙◌}
-use borrow.Author.Rules.{rules}
 use Rattle.text.proofs.is_spacing.Goals as goal
 
 pub returns-then-is_blank : goal.returns-then-is_blank

@@ -1,11 +1,8 @@
 -- `text::literal` meets its contract: what is left behind the rest of the word stays the same as its signs are read.
 use Prim.Native.Nat.{◌-◌}
-use mathlib.Core.Path.{◌≡◌, refl, sym, ap, ◌∙◌}
-use native.Mathlib.Omega.{arith}
+use mathlib.Core.Path.{◌≡◌}
 use lib.ListN.{length, drop}
-use borrow.Author.Rules.{rules}
 use Rattle.text.specs.Text.{literal}
-use Rattle.text.proofs.Texts.{literal_on, literal_done}
 use Rattle.text.proofs.literal.Given as goal
 
 abbrev pub invariant-loop-i : goal.invariant-loop-i

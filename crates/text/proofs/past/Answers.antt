@@ -1,11 +1,6 @@
 -- `text::past` meets its contract: what is left behind the signs of the kind stays the same as they are passed.
-use Prim.Native.Nat.{◌-◌}
-use mathlib.Core.Path.{◌≡◌, sym, ◌∙◌}
+use mathlib.Core.Path.{sym, ◌∙◌}
 use native.Mathlib.Omega.{arith}
-use lib.ListN.{length, drop}
-use borrow.Author.Rules.{rules}
-use borrow.Author.Tests.{not-true, not-false}
-use Rattle.text.specs.Text.{past}
 use Rattle.text.proofs.Texts.{past_on, past_stops, past_end}
 use Rattle.text.proofs.past.Goals as goal
 

@@ -4,7 +4,6 @@ use lib.ListN.{get_or}
 use native.Mathlib.Omega.{arith}
 use Rattle.text.specs.Text.{expect}
 use Rattle.text.proofs.Texts.{quoted_there, quoted_other, quoted_end}
-use borrow.Author.Rules.{rules}
 use Rattle.text.proofs.quoted.Goals as goal
 
 pub returns-then-is_quote : goal.returns-then-is_quote

@@ -3,7 +3,6 @@ use mathlib.Core.Path.{◌∙◌}
 use native.Mathlib.Omega.{arith}
 use lib.ListN.{length-set}
 use lib.Dec.{lit<}
-use borrow.Author.Rules.{rules}
 use Rattle.words.proofs.Shifts.{none_put, next_put, all_put}
 use Rattle.words.proofs.put_word.Goals as goal
 

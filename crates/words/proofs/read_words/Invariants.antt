@@ -1,14 +1,9 @@
 -- `words::read_words` meets its contract: the first i words are those that the bytes write.
 use Prim.Native.Nat.{ℕ, ◌*◌, ◌-◌}
-use mathlib.Core.Path.{◌≡◌, sym, ◌∙◌}
-use borrow.Author.Rules.{rules}
-use native.Mathlib.Omega.{arith}
-use lib.ListN.{length, take, drop, length-set}
-use lib.Seq.{ext_get_or}
+use mathlib.Core.Path.{◌≡◌}
+use lib.ListN.{length, take, drop}
 use Rattle.lists.specs.Bookkeeping.{Filled}
-use Rattle.lists.proofs.Stretches.{put}
-use Rattle.words.specs.Words.{word_of, words_of}
-use Rattle.words.proofs.Numbers.{length_words, word_there}
+use Rattle.words.specs.Words.{word_of}
 use Rattle.words.proofs.read_words.Given as goal
 
 abbrev pub invariant-loop-i : goal.invariant-loop-i

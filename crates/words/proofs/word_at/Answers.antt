@@ -1,5 +1,4 @@
 -- `words::word_at` meets its contract: the bytes are joined one by one.
-use borrow.Author.Rules.{rules}
 use native.Mathlib.Omega.{arith}
 use lib.Dec.{lit<}
 use Rattle.words.specs.Words.{Below}

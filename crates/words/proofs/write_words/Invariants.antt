@@ -1,15 +1,8 @@
 -- `words::write_words` meets its contract: the first i words are written.
-use Prim.Native.Nat.{ℕ, ◌+◌, ◌*◌, ◌-◌, ◌≤◌}
-use mathlib.Core.Path.{◌≡◌, ap, sym, ◌∙◌}
-use mathlib.Core.List.{List}
-use borrow.Author.Rules.{rules}
-use native.Mathlib.Omega.{arith}
+use Prim.Native.Nat.{ℕ, ◌*◌, ◌-◌, ◌≤◌}
 use lib.ListN.{length, get_or}
-use lib.Seq.{ext_get_or}
-use Rattle.lists.specs.Bookkeeping.{Filled}
-use Rattle.lists.proofs.Stretches.{Written, next_written}
+use Rattle.lists.proofs.Stretches.{Written}
 use Rattle.words.specs.Words.{all_bytes}
-use Rattle.words.proofs.Numbers.{length_all, byte_there}
 use Rattle.words.proofs.write_words.Given as goal
 
 abbrev pub invariant-loop-i : goal.invariant-loop-i

@@ -1,5 +1,5 @@
 -- `axis::coordinate::folds_on` meets its contract.
-use Rattle.std.proofs.Common.{sym, ◌∙◌, rules}
+use Rattle.std.proofs.Common.{sym, ◌∙◌}
 use Rattle.axis.proofs.coordinate.folds_on.Goals as goal
 
 pub returns-then-is_single : goal.returns-then-is_single

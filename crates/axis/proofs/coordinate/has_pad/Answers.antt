@@ -1,5 +1,5 @@
 -- `axis::coordinate::has_pad` meets its contract.
-use Rattle.std.proofs.Common.{◌∙◌, rules, le-ltb, lt-ltb}
+use Rattle.std.proofs.Common.{◌∙◌, le-ltb, lt-ltb}
 use Rattle.axis.proofs.coordinate.has_pad.Goals as goal
 
 pub returns-then-order-gt1 : goal.returns-then-order-gt1

@@ -1,5 +1,5 @@
 -- `axis::coordinate::output_length` meets its contract: the rounded product is a natural number.
-use Rattle.std.proofs.Common.{◌≡◌, ap, ◌∙◌, rules}
+use Rattle.std.proofs.Common.{◌≡◌, ap, ◌∙◌}
 use lib.Ieee.{Float, to_unsigned}
 use Rattle.exact.specs.Rounded.{◌⊗◌, num}
 use Rattle.exact.specs.Round.{round_ties_even_f}

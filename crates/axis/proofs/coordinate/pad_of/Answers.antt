@@ -1,5 +1,5 @@
 -- `axis::coordinate::pad_of` meets its contract.
-use Rattle.std.proofs.Common.{sym, ◌∙◌, rules}
+use Rattle.std.proofs.Common.{sym, ◌∙◌}
 use Rattle.axis.proofs.coordinate.pad_of.Goals as goal
 
 pub returns-then-has_pad : goal.returns-then-has_pad

@@ -1,5 +1,5 @@
 -- `axis::coordinate::settled_at` meets its contract.
-use Rattle.std.proofs.Common.{sym, rules}
+use Rattle.std.proofs.Common.{sym}
 use Rattle.exact.proofs.Literals.{two_bits}
 use Rattle.axis.proofs.Coordinates.{settles_unfolded, settles_padded, settles_before}
 use Rattle.axis.proofs.coordinate.settled_at.Goals as goal

@@ -1,5 +1,5 @@
 -- `axis::coordinate::shift_axis` meets its contract.
-use Rattle.std.proofs.Common.{refl, rules}
+use Rattle.std.proofs.Common.{refl}
 use lib.Ieee.{of_bits, of_int}
 use Rattle.axis.proofs.coordinate.shift_axis.Goals as goal
 

@@ -1,5 +1,5 @@
 -- `axis::coordinate::zoom_ratio` meets its contract.
-use Rattle.std.proofs.Common.{sym, ◌∙◌, rules}
+use Rattle.std.proofs.Common.{sym, ◌∙◌}
 use lib.Ieee.{of_bits, of_int}
 use Rattle.exact.specs.Rounded.{◌⊘◌}
 use Rattle.axis.proofs.coordinate.zoom_ratio.Goals as goal

@@ -1,5 +1,5 @@
 -- `axis::folded::is_folded` meets its contract.
-use Rattle.std.proofs.Common.{ℕ, ap, ◌∙◌, rules}
+use Rattle.std.proofs.Common.{ℕ, ap, ◌∙◌}
 use Rattle.axis.specs.Folded.{some_folded, folded_at}
 use Rattle.axis.proofs.Points.{order_most}
 use Rattle.axis.proofs.folded.is_folded.Goals as goal

@@ -1,5 +1,5 @@
 -- `axis::folded::some_folded` meets its contract: no neighbour passed so far brings in something from outside.
-use Rattle.std.proofs.Common.{◌≡◌, ℕ, ◌+◌, ◌-◌, ◌<◌, ◌≤◌, false, ◌&&◌, get_or, sym, ◌∙◌, not-suc-le-zero, arith, below_more}
+use Rattle.std.proofs.Common.{◌≡◌, ◌&&◌, get_or, sym, ◌∙◌, not-suc-le-zero, arith, below_more}
 use lib.Ieee.{nan}
 use Rattle.exact.specs.Rounded.{◌⊕◌, num}
 use Rattle.axis.specs.Folded.{weighs, beyond}

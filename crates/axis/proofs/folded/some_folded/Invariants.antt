@@ -1,9 +1,8 @@
 -- `axis::folded::some_folded` meets its contract: no neighbour passed so far brings in something from outside.
-use Rattle.std.proofs.Common.{◌≡◌, ℕ, ◌+◌, ◌-◌, ◌<◌, ◌≤◌, false, ◌&&◌, get_or, sym, ◌∙◌, not-suc-le-zero, arith, below_more}
+use Rattle.std.proofs.Common.{◌≡◌, ℕ, ◌+◌, ◌-◌, ◌<◌, ◌≤◌, false, ◌&&◌, get_or}
 use lib.Ieee.{nan}
 use Rattle.exact.specs.Rounded.{◌⊕◌, num}
 use Rattle.axis.specs.Folded.{weighs, beyond}
-use Rattle.axis.proofs.Folding.{folded-by, none_folded}
 use Rattle.axis.proofs.folded.some_folded.Given as goal
 
 abbrev pub invariant-loop-k : goal.invariant-loop-k

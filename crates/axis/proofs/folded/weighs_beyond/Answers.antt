@@ -1,7 +1,6 @@
 -- `axis::folded::weighs_beyond` meets its contract.
 use lib.Ieee.{of_bits, of_int}
 use Rattle.axis.proofs.Folding.{weightless, before_axis, behind_axis}
-use Rattle.std.proofs.Common.{rules}
 use Rattle.axis.proofs.folded.weighs_beyond.Goals as goal
 
 pub returns-then-w : goal.returns-then-w

@@ -1,7 +1,6 @@
 -- `axis::point::first_neighbour` meets its contract.
 use Rattle.exact.specs.Rounded.{◌⊖◌}
 use Rattle.axis.specs.Neighbours.{first_neighbour}
-use Rattle.std.proofs.Common.{rules}
 use Rattle.axis.proofs.point.first_neighbour.Goals as goal
 
 pub returns : goal.returns

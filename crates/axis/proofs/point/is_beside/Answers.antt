@@ -1,5 +1,5 @@
 -- `axis::point::is_beside` meets its contract.
-use Rattle.std.proofs.Common.{◌∙◌, rules}
+use Rattle.std.proofs.Common.{◌∙◌}
 use lib.Ieee.{of_bits, of_int}
 use Rattle.axis.proofs.Points.{beside_by, dropped_by}
 use Rattle.axis.proofs.point.is_beside.Goals as goal

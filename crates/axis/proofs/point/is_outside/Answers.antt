@@ -2,7 +2,6 @@
 use lib.Ieee.{of_bits, of_int}
 use Rattle.axis.proofs.Points.{outside-beyond}
 use Rattle.exact.proofs.Literals.{zero_bits}
-use Rattle.std.proofs.Common.{rules}
 use Rattle.axis.proofs.point.is_outside.Goals as goal
 
 pub returns-then-first : goal.returns-then-first

@@ -13,9 +13,10 @@ returns-then-out c = let a = c.args in kept-outside a.order a.mode a.len a.to c.
 not_beside : (c : Joined-order-eq0) → (eqb c.args.order 0 && outside c.args.order c.args.len c.first_neighbour-first.result) ≡ false
 not_beside c =
     let order = c.args.order in
-    elim c.if-order-eq0.branch
-    [ then-order-eq0+else-out w ↦ not-outside order (sym c.is_outside-out.ensures ∙ w.if-out.false)
-    | else-order-eq0 w ↦ not_order_zero order _ w.if-order-eq0.false ]
+    elim c.if-order-eq0.branch [
+      | then-order-eq0+else-out w ↦ not-outside order (sym c.is_outside-out.ensures ∙ w.if-out.false)
+      | else-order-eq0 w ↦ not_order_zero order _ w.if-order-eq0.false
+    ]
 
 pub build_splines-weight-requires : goal.build_splines-weight-requires
 build_splines-weight-requires c = c.requires.upto

@@ -1,5 +1,5 @@
 -- `axis::point::neighbour_at` meets its contract.
-use Rattle.std.proofs.Common.{◌≡◌, sym, ap, ◌∙◌, subst, rules}
+use Rattle.std.proofs.Common.{◌≡◌, sym, ap, ◌∙◌, subst}
 use lib.Ieee.{Float, to_unsigned}
 use Rattle.exact.specs.Rounded.{◌⊕◌}
 use Rattle.axis.specs.Neighbours.{neighbour, neighbour_index}

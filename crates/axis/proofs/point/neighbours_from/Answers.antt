@@ -1,5 +1,5 @@
 -- `axis::point::neighbours_from` meets its contract: the places filled so far hold the neighbours, and the rest 0.
-use Rattle.std.proofs.Common.{◌≡◌, ◌+◌, ◌-◌, ◌≤◌, Bool, ◌∙◌, subst, arith, le-leb}
+use Rattle.std.proofs.Common.{◌≡◌, Bool, ◌∙◌, subst, arith, le-leb}
 use Rattle.axis.proofs.Points.{place_of, Placed, placed_none, placed_more, placed_all}
 use Rattle.axis.proofs.point.neighbours_from.Goals as goal
 

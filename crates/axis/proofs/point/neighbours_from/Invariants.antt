@@ -1,6 +1,6 @@
 -- `axis::point::neighbours_from` meets its contract: the places filled so far hold the neighbours, and the rest 0.
-use Rattle.std.proofs.Common.{◌≡◌, ◌+◌, ◌-◌, ◌≤◌, Bool, ◌∙◌, subst, arith, le-leb}
-use Rattle.axis.proofs.Points.{place_of, Placed, placed_none, placed_more, placed_all}
+use Rattle.std.proofs.Common.{◌+◌, ◌-◌, ◌≤◌}
+use Rattle.axis.proofs.Points.{place_of, Placed}
 use Rattle.axis.proofs.point.neighbours_from.Given as goal
 
 abbrev pub invariant-loop-k : goal.invariant-loop-k

@@ -1,5 +1,5 @@
 -- `axis::point::point_at` meets its contract.
-use Rattle.std.proofs.Common.{◌∙◌, rules}
+use Rattle.std.proofs.Common.{◌∙◌}
 use lib.Ieee.{of_bits, of_int}
 use Rattle.axis.proofs.Points.{reached_kept, point-kept, point_dropped}
 use Rattle.axis.proofs.point.point_at.Goals as goal

@@ -1,7 +1,6 @@
 -- `axis::point::some_beside` meets its contract: no index passed so far lies beside the axis.
-use Rattle.std.proofs.Common.{◌≡◌, ℕ, ◌-◌, ◌<◌, ◌≤◌, false, sym, ◌∙◌, not-suc-le-zero, arith, below_more}
-use Rattle.lists.proofs.Somes.{some_none, some_at}
-use Rattle.axis.specs.Point.{beside_at, some_beside}
+use Rattle.std.proofs.Common.{◌≡◌, ℕ, ◌-◌, ◌<◌, ◌≤◌, false}
+use Rattle.axis.specs.Point.{beside_at}
 use Rattle.axis.proofs.point.some_beside.Given as goal
 
 abbrev pub invariant-loop-i : goal.invariant-loop-i

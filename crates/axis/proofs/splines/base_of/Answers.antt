@@ -1,5 +1,5 @@
 -- `axis::splines::base_of` meets its contract.
-use Rattle.std.proofs.Common.{◌∙◌, rules, eq-eqb, ne_eqb}
+use Rattle.std.proofs.Common.{◌∙◌, eq-eqb, ne_eqb}
 use lib.Ieee.{of_bits}
 use Rattle.axis.specs.Weights.{base}
 use Rattle.axis.proofs.splines.base_of.Goals as goal

@@ -1,5 +1,5 @@
 -- `axis::splines::build_splines` meets its contract: each arm has the weights of its order.
-use Rattle.std.proofs.Common.{◌≡◌, refl, arith, rules}
+use Rattle.std.proofs.Common.{◌≡◌, refl, arith}
 use lib.Ieee.{of_bits, of_int}
 use Rattle.axis.specs.Weights.{leading, leading1, completed, sum_from}
 use Rattle.axis.proofs.Weights.{by_order}

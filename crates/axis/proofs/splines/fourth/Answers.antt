@@ -1,5 +1,5 @@
 -- `axis::splines::fourth` meets its contract: the definition, written out.
-use Rattle.std.proofs.Common.{refl, rules}
+use Rattle.std.proofs.Common.{refl}
 use lib.Ieee.{of_bits, of_int, round}
 use Rattle.axis.specs.Weights.{leading4, completed, sum_from}
 use Rattle.axis.proofs.splines.fourth.Goals as goal

@@ -1,5 +1,5 @@
 -- `axis::splines::order_on` meets its contract.
-use Rattle.std.proofs.Common.{sym, ◌∙◌, rules}
+use Rattle.std.proofs.Common.{sym, ◌∙◌}
 use Rattle.axis.proofs.splines.order_on.Goals as goal
 
 pub returns-then-is_single : goal.returns-then-is_single

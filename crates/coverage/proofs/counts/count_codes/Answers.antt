@@ -1,8 +1,7 @@
 -- `coverage::counts::count_codes` meets its contract: the counts so far are those of the codes passed.
-use Prim.Native.Nat.{◌-◌, ◌≤◌}
-use mathlib.Core.Path.{◌≡◌, sym, ap, ◌∙◌}
+use mathlib.Core.Path.{sym, ap, ◌∙◌}
 use native.Mathlib.Omega.{arith}
-use lib.ListN.{length, get_or, take}
+use lib.ListN.{get_or, take}
 use Rattle.coverage.specs.declared.counts.Counts.{Counts}
 use lib.Seq.{take_all, length-take-le}
 use Rattle.coverage.specs.Coverage.{counts_of, counts_from, with_code, total}

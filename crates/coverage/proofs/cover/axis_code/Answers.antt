@@ -1,6 +1,5 @@
 -- `coverage::cover::axis_code` meets its contract.
 use mathlib.Core.Path.{sym, ◌∙◌}
-use borrow.Author.Rules.{rules}
 use Rattle.coverage.proofs.cover.axis_code.Goals as goal
 
 pub returns-then-is_folded : goal.returns-then-is_folded

@@ -1,11 +1,8 @@
 -- `coverage::cover::axis_codes` meets its contract: the codes so far are those of the indices passed.
 use Prim.Native.Nat.{◌-◌, ◌≤◌}
 use mathlib.Core.Path.{◌≡◌}
-use native.Mathlib.Nat.{not-suc-le-zero}
-use native.Mathlib.Omega.{arith}
-use lib.ListN.{length, length-set}
+use lib.ListN.{length}
 use Rattle.lists.specs.Bookkeeping.{Filled}
-use Rattle.lists.proofs.Stretches.{put}
 use Rattle.coverage.specs.Bookkeeping.{axis_code}
 use Rattle.coverage.proofs.cover.axis_codes.Given as goal
 

@@ -1,7 +1,6 @@
 -- `coverage::cover::cover` meets its contract: the codes of each axis, and the planes by them.
 use mathlib.Core.Path.{◌∙◌}
 use Rattle.coverage.proofs.Covering.{by_axes}
-use borrow.Author.Rules.{rules}
 use Rattle.coverage.proofs.cover.cover.Goals as goal
 
 pub returns : goal.returns

@@ -26,7 +26,6 @@ module _ (c : In-loop-i) where
       let k : (c.loop-i.i + 1) * plane - c.loop-i.i * plane ≡ plane = omega (arith, next c.loop-i.i plane) in
       part_length c.loop-i.coverage (c.loop-i.i * plane) ((c.loop-i.i + 1) * plane - c.loop-i.i * plane) (omega (arith, room)) ∙ k
 
-
 pub overflow_mul-plane : goal.overflow_mul-plane
 overflow_mul-plane c = omega (arith, small c.args.rows c.args.row c.requires.rows_le_longest.0 c.requires.rows_le_longest.1.1)
 

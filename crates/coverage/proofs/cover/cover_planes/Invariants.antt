@@ -1,12 +1,7 @@
 -- `coverage::cover::cover_planes` meets its contract: the planes so far are written.
-use Prim.Native.Nat.{ℕ, ◌+◌, ◌*◌, ◌-◌, ◌≤◌}
-use mathlib.Core.Path.{◌≡◌, ◌∙◌, sym, subst}
-use native.Mathlib.Nat.{mul-le-mul}
-use native.Mathlib.Omega.{arith}
-use lib.ListN.{length, take, drop}
-use Rattle.lists.proofs.Stretches.{next, part_length, Written, none_written, stretch_within, next_written, all_written}
+use Prim.Native.Nat.{◌*◌, ◌-◌, ◌≤◌}
+use Rattle.lists.proofs.Stretches.{Written}
 use Rattle.coverage.specs.Bookkeeping.{code_by_axes}
-use Rattle.coverage.proofs.Covering.{plane_filled}
 use Rattle.coverage.proofs.cover.cover_planes.Given as goal
 
 abbrev pub invariant-loop-i : goal.invariant-loop-i

@@ -1,12 +1,8 @@
 -- `coverage::cover::cover_row` meets its contract: the codes so far are those of the places passed.
 use Prim.Native.Nat.{ℕ, ◌-◌, ◌≤◌}
 use mathlib.Core.Path.{◌≡◌}
-use native.Mathlib.Nat.{not-suc-le-zero}
-use native.Mathlib.Omega.{arith}
-use lib.ListN.{length, get_or, length-set}
+use lib.ListN.{length, get_or}
 use Rattle.lists.specs.Bookkeeping.{Filled}
-use Rattle.lists.proofs.Tabulated.{is_tabulate}
-use Rattle.lists.proofs.Stretches.{put}
 use Rattle.coverage.specs.Bookkeeping.{joined}
 use Rattle.coverage.proofs.cover.cover_row.Given as goal
 

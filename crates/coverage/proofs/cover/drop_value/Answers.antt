@@ -3,7 +3,6 @@ use mathlib.Core.Path.{sym, ap}
 use lib.Ieee.{of_bits, of_int}
 use Rattle.border.specs.declared.BorderMode.{BorderMode}
 use Rattle.coverage.specs.Coverage.{drop_value}
-use borrow.Author.Rules.{rules}
 use Rattle.coverage.proofs.cover.drop_value.Goals as goal
 
 pub returns-in-Mirror : goal.returns-in-Mirror

@@ -3,7 +3,6 @@ use mathlib.Core.Path.{ap}
 use lib.Ieee.{Float, of_bits, of_int}
 use Rattle.axis.specs.Coordinate.{kept}
 use Rattle.coverage.specs.Coverage.{kept_at}
-use borrow.Author.Rules.{rules}
 use Rattle.coverage.proofs.cover.is_kept.Goals as goal
 
 pub returns : goal.returns

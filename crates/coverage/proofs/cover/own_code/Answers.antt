@@ -2,7 +2,6 @@
 use mathlib.Core.Path.{◌∙◌}
 use Rattle.coverage.specs.Bookkeeping.{joined}
 use Rattle.coverage.proofs.Covering.{own_joined}
-use borrow.Author.Rules.{rules}
 use Rattle.coverage.proofs.cover.own_code.Goals as goal
 
 pub returns : goal.returns

@@ -2,7 +2,6 @@
 use mathlib.Core.Path.{sym, ◌∙◌}
 use native.Mathlib.Omega.{arith}
 use Rattle.text.proofs.Texts.{zero_there, numeral_there, numeral_large, numeral_other, numeral_end}
-use borrow.Author.Rules.{rules}
 use Rattle.text.proofs.numeral.after_numeral.Goals as goal
 
 pub returns-then-text-at-eq48 : goal.returns-then-text-at-eq48

@@ -1,15 +1,8 @@
 -- `text::numeral::numeral` meets its contract: what the digits write stays the same as they are read, and the number so far is below the limit.
-use Prim.Native.Nat.{ℕ, ◌+◌, ◌-◌, ◌*◌, ◌<◌}
-use native.Mathlib.Nat.{le_trans}
-use mathlib.Core.Path.{◌≡◌, refl, sym, ◌∙◌}
-use mathlib.Core.Bool.{true}
-use native.Mathlib.Omega.{arith}
-use lib.ListN.{length, get_or, drop}
-use borrow.Author.Rules.{rules}
-use borrow.Author.Tests.{not-true, not-false}
-use Rattle.text.specs.Text.{is_digit}
+use Prim.Native.Nat.{◌-◌, ◌<◌}
+use mathlib.Core.Path.{◌≡◌}
+use lib.ListN.{length, drop}
 use Rattle.text.specs.Numeral.{limit, value_from}
-use Rattle.text.proofs.Texts.{value_on, value_stops, value_end, digit_within, value_grows, numeral_is, numeral-limit}
 use Rattle.text.proofs.numeral.numeral.Given as goal
 
 abbrev pub invariant-loop-i : goal.invariant-loop-i

@@ -1,12 +1,9 @@
 -- `voxels::sum::add_x` meets its contract. The loop's invariant: each lane has the sum of the first k planes.
-use Prim.Native.Nat.{ℕ, ◌-◌, ◌≤◌}
 use mathlib.Core.Path.{◌≡◌, refl}
 use native.Mathlib.Omega.{arith}
 use lib.ListN.{length, get_or, length-take, length-drop}
-use borrow.Author.Rules.{rules}
 use Rattle.voxels.specs.Sum.{sum_x}
-use Rattle.voxels.specs.Bookkeeping.{number, place}
-use Rattle.voxels.specs.Sum.{lent}
+use Rattle.voxels.specs.Bookkeeping.{place}
 use Rattle.voxels.proofs.Sums.{Room, room, turn_x_lent}
 use Rattle.voxels.proofs.sum.add_x.Goals.{After-w-1}
 use Rattle.voxels.proofs.sum.add_x.Goals as goal

@@ -1,12 +1,10 @@
 -- `voxels::sum::add_y` meets its contract. The loop's invariant: each lane has the sums of the first k rows.
-use Prim.Native.Nat.{ℕ, ◌+◌, ◌*◌, ◌-◌, ◌≤◌, ◌<◌}
+use Prim.Native.Nat.{ℕ, ◌+◌, ◌*◌, ◌<◌}
 use mathlib.Core.Path.{◌≡◌, refl}
 use native.Mathlib.Omega.{arith}
 use lib.ListN.{get_or}
-use borrow.Author.Rules.{rules}
 use Rattle.voxels.specs.Sum.{sum_y}
-use Rattle.voxels.specs.Bookkeeping.{number, place}
-use Rattle.voxels.specs.Sum.{lent}
+use Rattle.voxels.specs.Bookkeeping.{place}
 use Rattle.voxels.proofs.Sums.{within, turn_y}
 use Rattle.voxels.proofs.sum.add_y.Goals.{After-v-1}
 use Rattle.voxels.proofs.sum.add_y.Goals as goal

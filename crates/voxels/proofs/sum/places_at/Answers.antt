@@ -1,6 +1,5 @@
 -- `voxels::sum::places_at` meets its contract.
 use mathlib.Core.Path.{refl}
-use borrow.Author.Rules.{rules}
 use Rattle.voxels.proofs.Sums.{in_each}
 use Rattle.voxels.proofs.sum.places_at.Goals as goal
 

@@ -1,13 +1,9 @@
 -- `voxels::sum::sum_four` meets its contract. The loop's invariant: each lane has the sums of the first k neighbours on the last axis, from 0.0 on.
 use Prim.Native.Nat.{ℕ, ◌+◌, ◌-◌, ◌≤◌}
-use mathlib.Core.Path.{◌≡◌, refl}
-use native.Mathlib.Omega.{arith}
-use lib.Ieee.{of_bits, of_int}
-use borrow.Author.Rules.{rules}
-use Rattle.voxels.specs.Sum.{sum_z, sum_at}
+use mathlib.Core.Path.{◌≡◌}
+use Rattle.voxels.specs.Sum.{sum_z}
 use Rattle.voxels.specs.Bookkeeping.{column, lane, number}
 use Rattle.voxels.specs.Sum.{lent}
-use Rattle.voxels.proofs.Sums.{in_each, lane_below, turn_z_tabled}
 use Rattle.voxels.proofs.sum.sum_four.Given as goal
 
 abbrev pub invariant-loop-k : goal.invariant-loop-k

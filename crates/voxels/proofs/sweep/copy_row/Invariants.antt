@@ -2,14 +2,9 @@
 use Prim.Native.Nat.{ℕ, ◌+◌, ◌-◌, ◌≤◌}
 use mathlib.Core.Path.{◌≡◌}
 use mathlib.Core.Bool.{false, cond}
-use native.Mathlib.Omega.{arith}
-use borrow.Author.Count.{below_none}
-use borrow.Author.Rules.{rules}
-use lib.ListN.{length, get_or, length-set}
+use lib.ListN.{length, get_or}
 use lib.Ieee.{nan}
 use Rattle.lists.specs.Bookkeeping.{Filled}
-use Rattle.lists.proofs.Tabulated.{is_tabulate}
-use Rattle.lists.proofs.Stretches.{put}
 use Rattle.voxels.proofs.sweep.copy_row.Given as goal
 
 abbrev pub invariant-loop-k : goal.invariant-loop-k

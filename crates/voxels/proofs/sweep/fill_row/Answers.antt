@@ -1,12 +1,9 @@
 -- `voxels::sweep::fill_row` meets its contract: the places so far are filled.
-use Prim.Native.Nat.{ℕ, ◌-◌, ◌≤◌}
-use mathlib.Core.Path.{◌≡◌}
+use Prim.Native.Nat.{ℕ}
 use native.Mathlib.Omega.{arith}
 use borrow.Author.Count.{below_none}
-use borrow.Author.Rules.{rules}
-use lib.ListN.{length, length-set}
+use lib.ListN.{length-set}
 use lib.Ieee.{nan}
-use Rattle.lists.specs.Bookkeeping.{Filled}
 use Rattle.lists.proofs.Tabulated.{is_tabulate}
 use Rattle.lists.proofs.Stretches.{store}
 use Rattle.voxels.proofs.sweep.fill_row.Goals as goal

@@ -12,7 +12,6 @@ use Rattle.voxels.specs.Bookkeeping.{column}
 use Rattle.voxels.specs.Sum.{lent}
 use Rattle.voxels.proofs.Sums.{Room, room, within}
 use Rattle.voxels.proofs.Sweeping.{computed_copy, computed-sum}
-use borrow.Author.Rules.{rules}
 use Rattle.voxels.proofs.sweep.kept_row.Goals.{Start}
 use Rattle.voxels.proofs.sweep.kept_row.Goals as goal
 
@@ -37,7 +36,6 @@ module _ (s : Start) where
   plane_long =
       let k : part ≡ s.args.plane = omega (arith, in_volume) in
       part_length s.args.«data».now (i * s.args.plane) part (omega (arith, in_volume)) ∙ k
-
 
 pub overflow_mul-i : goal.overflow_mul-i
 overflow_mul-i c = omega (arith, in_volume (goal.at.overflow_mul-i c).Start)

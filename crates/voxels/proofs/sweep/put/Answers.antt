@@ -4,7 +4,6 @@ use lib.ListN.{set}
 use lib.Ieee.{Float}
 use lib.Seq.{set_out}
 use native.Mathlib.Omega.{arith}
-use borrow.Author.Rules.{rules}
 use Rattle.voxels.proofs.sweep.put.Goals as goal
 
 pub returns-then-k-out : goal.returns-then-k-out

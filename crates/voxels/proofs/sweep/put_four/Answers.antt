@@ -4,7 +4,6 @@ use mathlib.Core.Path.{◌∙◌, ap}
 use mathlib.Core.List.{List}
 use lib.Ieee.{Float}
 use Rattle.voxels.specs.Bookkeeping.{with_voxel}
-use borrow.Author.Rules.{rules}
 use Rattle.voxels.proofs.sweep.put_four.Goals as goal
 
 pub returns : goal.returns

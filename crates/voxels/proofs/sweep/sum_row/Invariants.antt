@@ -1,17 +1,13 @@
 -- `voxels::sweep::sum_row` meets its contract: the blocks so far are written.
-use Prim.Native.Nat.{ℕ, ◌+◌, ◌-◌}
-use mathlib.Core.Path.{◌≡◌, ◌∙◌, refl, subst, sym}
+use Prim.Native.Nat.{ℕ, ◌-◌}
+use mathlib.Core.Path.{◌≡◌}
 use mathlib.Core.Bool.{false, cond}
-use mathlib.Core.List.{List}
-use native.Mathlib.Nat.{not-suc-le-zero}
-use native.Mathlib.Omega.{arith}
 use lib.ListN.{length, get_or}
-use lib.Ieee.{Float, nan}
-use Rattle.lists.proofs.Tabulated.{is_tabulate}
+use lib.Ieee.{nan}
 use Rattle.voxels.specs.Sum.{sum_at}
 use Rattle.voxels.specs.Bookkeeping.{column}
 use Rattle.voxels.specs.Sum.{lent}
-use Rattle.voxels.proofs.Sweeping.{Upto, put_block}
+use Rattle.voxels.proofs.Sweeping.{Upto}
 use Rattle.voxels.proofs.sweep.sum_row.Given as goal
 
 abbrev pub invariant-loop-o : goal.invariant-loop-o

@@ -3,7 +3,6 @@ use mathlib.Core.Path.{◌∙◌}
 use native.Mathlib.Omega.{arith}
 use Rattle.voxels.proofs.Tables.{table_start}
 use Rattle.voxels.proofs.Sweeping.{by_table}
-use borrow.Author.Rules.{rules}
 use Rattle.voxels.proofs.sweep.sweep.Goals as goal
 
 pub fill_table-requires : goal.fill_table-requires

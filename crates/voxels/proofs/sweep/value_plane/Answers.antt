@@ -31,7 +31,6 @@ module _ (c : In-loop-j) where
       let k : (c.loop-j.j + 1) * width - c.loop-j.j * width ≡ width = omega (arith, next c.loop-j.j width) in
       part_length c.loop-j.out (c.loop-j.j * width) ((c.loop-j.j + 1) * width - c.loop-j.j * width) (omega (arith, room)) ∙ k
 
-
 pub loop-j-init : goal.loop-j-init
 loop-j-init c =
     let a = c.args in

@@ -1,17 +1,9 @@
 -- `voxels::sweep::value_plane` meets its contract: the rows so far are written.
-use Prim.Native.Nat.{ℕ, ◌+◌, ◌*◌, ◌-◌, ◌≤◌, ◌<◌}
-use mathlib.Core.Path.{◌≡◌, ◌∙◌, sym, ap, subst}
-use mathlib.Core.Bool.{Bool, ◌&&◌}
-use native.Mathlib.Omega.{arith}
-use lib.ListN.{length, take, drop}
+use Prim.Native.Nat.{◌*◌, ◌-◌, ◌≤◌}
 use lib.Ieee.{nan}
-use Rattle.lists.specs.Tabulate.{tabulate}
-use Rattle.lists.proofs.Stretches.{next, part_length, Written, none_written, stretch_within, next_written, all_written}
-use Rattle.axis.specs.declared.point.Point.{Point}
+use Rattle.lists.proofs.Stretches.{Written}
 use Rattle.voxels.specs.Sum.{lent}
-use Rattle.voxels.specs.Voxel.{tap_of}
-use Rattle.voxels.specs.Bookkeeping.{row_value, plane_value}
-use Rattle.voxels.proofs.Sweeping.{marked_kept, point_planes, row_filled}
+use Rattle.voxels.specs.Bookkeeping.{plane_value}
 use Rattle.voxels.proofs.sweep.value_plane.Given as goal
 
 abbrev pub invariant-loop-j : goal.invariant-loop-j

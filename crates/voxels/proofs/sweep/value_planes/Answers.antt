@@ -29,7 +29,6 @@ module _ (c : In-loop-i) where
       let k : (c.loop-i.i + 1) * size - c.loop-i.i * size ≡ size = omega (arith, next c.loop-i.i size) in
       part_length c.loop-i.out (c.loop-i.i * size) ((c.loop-i.i + 1) * size - c.loop-i.i * size) (omega (arith, room)) ∙ k
 
-
 small : (a b : ℕ) → a ≤ 4120 → b ≤ 4120 → a * b ≤ 4120 * 4120
 small a b h k = mul-le-mul h k
 

@@ -1,15 +1,8 @@
 -- `voxels::sweep::value_planes` meets its contract: the planes so far are written.
-use Prim.Native.Nat.{ℕ, ◌+◌, ◌*◌, ◌-◌, ◌≤◌, ◌<◌}
-use mathlib.Core.Path.{◌≡◌, ◌∙◌, refl, sym, ap, subst}
-use native.Mathlib.Nat.{mul-le-mul}
-use native.Mathlib.Omega.{arith}
-use lib.ListN.{length, take, drop}
+use Prim.Native.Nat.{◌*◌, ◌-◌, ◌≤◌}
 use lib.Ieee.{nan}
-use Rattle.lists.proofs.Stretches.{next, part_length, Written, none_written, stretch_within, next_written, all_written}
-use Rattle.axis.specs.declared.point.Point.{Point}
-use Rattle.voxels.specs.Voxel.{tap_of}
+use Rattle.lists.proofs.Stretches.{Written}
 use Rattle.voxels.specs.Bookkeeping.{volume_value}
-use Rattle.voxels.proofs.Sweeping.{marked_kept, point_planes, plane_filled}
 use Rattle.voxels.proofs.sweep.value_planes.Given as goal
 
 abbrev pub invariant-loop-i : goal.invariant-loop-i

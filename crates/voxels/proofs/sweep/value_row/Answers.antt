@@ -4,7 +4,6 @@ use mathlib.Core.Bool.{true, false}
 use lib.ListN.{length}
 use Rattle.voxels.specs.Sum.{lent}
 use Rattle.voxels.proofs.Sweeping.{row_by}
-use borrow.Author.Rules.{rules}
 use Rattle.voxels.proofs.sweep.value_row.Goals as goal
 
 pub returns-then-others : goal.returns-then-others

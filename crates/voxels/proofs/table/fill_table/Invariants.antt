@@ -1,16 +1,11 @@
 -- `voxels::table::fill_table` meets its contract: the columns and the flags so far are those of the indices passed.
 use Prim.Native.Nat.{◌-◌, ◌≤◌}
-use mathlib.Core.Path.{◌≡◌, ◌∙◌, sym}
+use mathlib.Core.Path.{◌≡◌}
 use mathlib.Core.Bool.{false}
-use native.Mathlib.Nat.{not-suc-le-zero}
-use native.Mathlib.Omega.{arith}
-use lib.ListN.{length, length-set}
+use lib.ListN.{length}
 use Rattle.lists.specs.Bookkeeping.{Filled}
-use Rattle.lists.proofs.Stretches.{put}
 use Rattle.coverage.specs.Coverage.{kept_at}
 use Rattle.voxels.specs.Bookkeeping.{Tabled}
-use Rattle.voxels.proofs.Tables.{tabled_more}
-use Rattle.voxels.proofs.Sweeping.{marked_kept}
 use Rattle.voxels.proofs.table.fill_table.Given as goal
 
 abbrev pub invariant-loop-i : goal.invariant-loop-i

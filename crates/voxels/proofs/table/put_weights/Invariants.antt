@@ -1,11 +1,7 @@
 -- `voxels::table::put_weights` meets its contract: the first k places of the column are set.
 use Prim.Native.Nat.{◌-◌, ◌≤◌}
-use mathlib.Core.Path.{◌≡◌, ◌∙◌}
-use native.Mathlib.Omega.{arith}
-use borrow.Author.Rules.{rules}
 use lib.Ieee.{nan}
 use Rattle.voxels.specs.Bookkeeping.{Column}
-use Rattle.voxels.proofs.Tables.{column-none, column_more}
 use Rattle.voxels.proofs.table.put_weights.Given as goal
 
 abbrev pub invariant-loop-k : goal.invariant-loop-k

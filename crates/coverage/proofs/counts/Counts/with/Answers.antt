@@ -4,7 +4,6 @@ use lib.Dec.{eqb, ltb}
 use borrow.Author.Tests.{eq-eqb}
 use Rattle.coverage.specs.Coverage.{with_code}
 use Rattle.coverage.proofs.Counting.{once_most, with_others}
-use borrow.Author.Rules.{rules}
 use Rattle.coverage.proofs.counts.Counts.with.Goals as goal
 
 pub overflow_add-self-else-code-eq0 : goal.overflow_add-self-else-code-eq0
