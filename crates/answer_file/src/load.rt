@@ -2,6 +2,9 @@
 ghost use Rattle.std.specs.Prelude.{◌+◌, ◌≤◌, length};
 
 use crate::words::wide;
+use std::fs;
+use std::io::Read;
+use std::rt::Files;
 
 fn word_of(b: &[u8], i: usize) -> u64
     requires { i + 8 ≤ length b.now }
@@ -37,41 +40,55 @@ fn put_words(words: &mut [u64], at: usize, bytes: &[u8]) -> usize
     to
 }
 
+// Reads until the buffer is full, the file ends or a read fails. Answers how many bytes came.
+fn read_full(file: &mut impl Read, buf: &mut [u8]) -> usize
+    ensures { result ≤ length buf.old }
+{
+    let mut done = 0;
+    while done < buf.len() {
+        let n = file.read(&mut buf[done..]).unwrap_or(0);
+        if n == 0 {
+            break;
+        }
+        done += n;
+    }
+    done
+}
+
 // One read.
-fn load_some(fd: i32, words: &mut [u64], at: usize) -> usize
+fn load_some(file: &mut impl Read, words: &mut [u64], at: usize) -> usize
     requires { at ≤ length words.old }
     ensures { result ≤ length words.old }
 {
-    let mut buf = io::buffer();
-    let n = io::read_full(fd, &mut buf);
+    let mut buf = [0u8; 4096];
+    let n = read_full(file, &mut buf);
     put_words(words, at, &buf[..n])
 }
 
 // As many reads as can fill the words; those past the end of the file read nothing. Answers how
 // many words came.
-fn load_from(fd: i32, words: &mut [u64]) -> usize
+fn load_from(file: &mut impl Read, words: &mut [u64]) -> usize
     ensures { result ≤ length words.old }
 {
     let reads = words.len() / 512;
     let mut at = 0;
     let mut i = 0;
     while i < reads {
-        at = load_some(fd, words, at);
+        at = load_some(file, words, at);
         i += 1;
     }
     at
 }
 
-// The file `answers`. One that cannot be opened has no words.
-pub fn load(words: &mut [u64]) -> usize
+// The file `answers`. One that cannot be opened has no words, and standard error says why.
+pub fn load(rt: &(impl Files + Eprint), words: &mut [u64]) -> usize
     ensures { result ≤ length words.new }
 {
-    let fd = os::open_read(b"answers");
-    if fd < 0 {
-        os::fail(b"answers");
-        return 0;
+    match fs::open(rt, "answers") {
+        Ok(mut file) => load_from(&mut file, words),
+        Err(why) => {
+            let _ = eprintln!(rt; "answers: {why}");
+            0
+        }
     }
-    let n = load_from(fd, words);
-    libc::close(fd);
-    n
 }

@@ -1,13 +1,13 @@
 // What programs write.
 use crate::replay::Replay;
-use libc::STDOUT_FILENO;
+use std::io;
 
-pub fn say(text: &[u8]) {
-    io::write_all(STDOUT_FILENO, text);
+pub fn say(rt: &impl Print, text: &[u8]) -> io::Result<()> {
+    rt.write_all(text)
 }
 
-pub fn say_whole(n: u64) {
-    io::print_decimal(STDOUT_FILENO, n);
+pub fn say_whole(rt: &impl Print, n: u64) -> io::Result<()> {
+    rt.print(n)
 }
 
 // The whole part of x, and 0 where a u64 cannot hold it.
@@ -21,16 +21,17 @@ pub fn whole_part(x: f64) -> u64 {
 }
 
 // Ends a line; `differ` says what the second number counts.
-pub fn say_compared(r: Replay, differ: &[u8]) {
-    say_whole(r.compared);
-    say(differ);
-    say_whole(r.differ);
-    say(b"\n");
+pub fn say_compared(rt: &impl Print, r: Replay, differ: &[u8]) -> io::Result<()> {
+    say_whole(rt, r.compared)?;
+    say(rt, differ)?;
+    say_whole(rt, r.differ)?;
+    say(rt, b"\n")
 }
 
 // None of the file is left at the end.
-pub fn say_end(words: &[u64], end: usize) {
+pub fn say_end(rt: &impl Print, words: &[u64], end: usize) -> io::Result<()> {
     if end < words.len() {
-        say(b"the file goes on\n");
+        say(rt, b"the file goes on\n")?;
     }
+    Ok(())
 }

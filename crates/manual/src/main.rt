@@ -13,6 +13,7 @@ use recorded::calls::{
 };
 use recorded::lengths::{OUTPUT_ROOM, WORK_ROOM, is_call};
 use resample::number_in;
+use std::io;
 
 // A refusal counts as a number outside, and so do words that are no call.
 fn hold_call(words: &[u64], h: Held, at: usize) -> Held {
@@ -54,29 +55,35 @@ fn hold_entry(words: &[u64], entry: usize, widest: f64) -> Held {
 }
 
 // Writes one line.
-fn hold_line(words: &[u64], entry: usize, name: &[u8], widest: f64) -> Held {
+fn hold_line(
+    rt: &impl Print,
+    words: &[u64],
+    entry: usize,
+    name: &[u8],
+    widest: f64,
+) -> io::Result<Held> {
     let h = hold_entry(words, entry, widest);
     let r = h.replay;
-    say_calls(words, entry, name);
-    say(b"compared ");
-    say_compared(r, b" outside ");
-    h
+    say_calls(rt, words, entry, name)?;
+    say(rt, b"compared ")?;
+    say_compared(rt, r, b" outside ")?;
+    Ok(h)
 }
 
-fn hold_all(words: &[u64]) {
-    let shifts = hold_line(words, 0, b"shift", 0.0);
-    let zooms = hold_line(words, 1, b"zoom", shifts.widest);
-    let filters = hold_line(words, 2, b"spline_filter", zooms.widest);
-    let last = hold_line(words, 3, b"spline_filter1d", filters.widest);
-    say(b"largest gap: ");
-    say_whole(whole_part(last.widest * 1000000000000000000.0));
-    say(b" in 10^18 of the largest voxel\n");
+fn hold_all(rt: &impl Print, words: &[u64]) -> io::Result<()> {
+    let shifts = hold_line(rt, words, 0, b"shift", 0.0)?;
+    let zooms = hold_line(rt, words, 1, b"zoom", shifts.widest)?;
+    let filters = hold_line(rt, words, 2, b"spline_filter", zooms.widest)?;
+    let last = hold_line(rt, words, 3, b"spline_filter1d", filters.widest)?;
+    say(rt, b"largest gap: ")?;
+    say_whole(rt, whole_part(last.widest * 1000000000000000000.0))?;
+    say(rt, b" in 10^18 of the largest voxel\n")?;
     let r = last.replay;
-    say_end(words, r.at);
+    say_end(rt, words, r.at)
 }
 
-fn main() {
+fn main(rt: HostRuntime) -> io::Result<()> {
     let mut words = [0u64; 65536];
-    let n = load(&mut words);
-    hold_all(&words[..n]);
+    let n = load(&rt, &mut words);
+    hold_all(&rt, &words[..n])
 }

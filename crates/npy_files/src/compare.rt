@@ -2,7 +2,6 @@
 use crate::records::{answer_at, one_if, volume_from};
 use answer_file::replay::{Replay, counted, refused};
 use answer_file::words::{whole_at, word_at};
-use check::same;
 use npy::{dims, read, size, write};
 use refusal::{Verdict, number_by};
 
@@ -72,7 +71,7 @@ pub fn expect_read(words: &[u64], r: Replay, at: usize, file: &[u8], volume: &mu
 
 // Whether these are the file's own bytes, against word 7.
 fn expect_bytes(words: &[u64], r: Replay, at: usize, file: &[u8], written: &[u8]) -> Replay {
-    counted(r, one_if(same(file, written)) == word_at(words, at, 7))
+    counted(r, one_if(file == written) == word_at(words, at, 7))
 }
 
 fn expect_written(

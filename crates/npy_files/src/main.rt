@@ -14,6 +14,7 @@ use records::{
     after_record, file_length, first_record, is_in_file, number_of_records, places_lent, put_file,
     records_for,
 };
+use std::io;
 
 // The places of the buffers: of a file, and of a volume.
 const FILE_ROOM: usize = 10240;
@@ -77,49 +78,49 @@ fn replay_kind(words: &[u64], kind: usize) -> Replay {
     r
 }
 
-fn say_records(words: &[u64]) {
-    say(b"records: ");
-    say_whole(number_of_records(words) as u64);
-    say(b"\n");
+fn say_records(rt: &impl Print, words: &[u64]) -> io::Result<()> {
+    say(rt, b"records: ")?;
+    say_whole(rt, number_of_records(words) as u64)?;
+    say(rt, b"\n")
 }
 
-fn say_answer(words: &[u64], maker: u64, answer: u64) {
-    say(b" ");
-    say_whole(records_for(words, maker, answer));
+fn say_answer(rt: &impl Print, words: &[u64], maker: u64, answer: u64) -> io::Result<()> {
+    say(rt, b" ")?;
+    say_whole(rt, records_for(words, maker, answer))
 }
 
 // Writes one line of recorded answers.
-fn say_maker(words: &[u64], maker: u64, name: &[u8]) {
-    say(name);
-    say(b": answers 0 3 7 10:");
-    say_answer(words, maker, 0);
-    say_answer(words, maker, 3);
-    say_answer(words, maker, 7);
-    say_answer(words, maker, 10);
-    say(b"\n");
+fn say_maker(rt: &impl Print, words: &[u64], maker: u64, name: &[u8]) -> io::Result<()> {
+    say(rt, name)?;
+    say(rt, b": answers 0 3 7 10:")?;
+    say_answer(rt, words, maker, 0)?;
+    say_answer(rt, words, maker, 3)?;
+    say_answer(rt, words, maker, 7)?;
+    say_answer(rt, words, maker, 10)?;
+    say(rt, b"\n")
 }
 
 // Writes one line, and answers where the records end.
-fn replay_line(words: &[u64], kind: usize, name: &[u8]) -> usize {
+fn replay_line(rt: &impl Print, words: &[u64], kind: usize, name: &[u8]) -> io::Result<usize> {
     let r = replay_kind(words, kind);
-    say(name);
-    say(b": compared ");
-    say_compared(r, b" differ ");
-    r.at
+    say(rt, name)?;
+    say(rt, b": compared ")?;
+    say_compared(rt, r, b" differ ")?;
+    Ok(r.at)
 }
 
-fn replay_all(words: &[u64]) {
-    say_records(words);
-    say_maker(words, 1, b"written by NumPy");
-    say_maker(words, 0, b"spelled by hand");
-    replay_line(words, 0, b"dims");
-    replay_line(words, 1, b"read");
-    let end = replay_line(words, 2, b"write");
-    say_end(words, end);
+fn replay_all(rt: &impl Print, words: &[u64]) -> io::Result<()> {
+    say_records(rt, words)?;
+    say_maker(rt, words, 1, b"written by NumPy")?;
+    say_maker(rt, words, 0, b"spelled by hand")?;
+    replay_line(rt, words, 0, b"dims")?;
+    replay_line(rt, words, 1, b"read")?;
+    let end = replay_line(rt, words, 2, b"write")?;
+    say_end(rt, words, end)
 }
 
-fn main() {
+fn main(rt: HostRuntime) -> io::Result<()> {
     let mut words = [0u64; 65536];
-    let n = load(&mut words);
-    replay_all(&words[..n]);
+    let n = load(&rt, &mut words);
+    replay_all(&rt, &words[..n])
 }

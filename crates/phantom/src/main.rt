@@ -8,6 +8,7 @@ use answer_file::print::{say, say_whole};
 use border::BorderMode;
 use request::Request;
 use resample::{Answer, counts_in, number_in, shift};
+use std::io;
 use steps::{ALL, NEAR, Steps, VOXELS};
 use volume::{FILL, moved_wrong, phantom, returned_wrong};
 
@@ -113,32 +114,34 @@ fn run_all(first: usize, end: usize, there: usize, back: usize, phantom: &[f64; 
 }
 
 // A line of totals; the voxels that were wrong are handed back.
-fn say_totals(name: &[u8], t: Totals) -> u64 {
-    say_whole(t.shifts);
-    say(name);
-    say_whole(t.moved);
-    say(b" moved exactly, ");
-    say_whole(t.returned);
-    say(b" brought back; ");
-    say_whole(t.inside);
-    say(b" voxels inside, ");
-    say_whole(t.filled);
-    say(b" filled\n");
-    t.wrong
+fn say_totals(rt: &impl Print, name: &[u8], t: Totals) -> io::Result<u64> {
+    say_whole(rt, t.shifts)?;
+    say(rt, name)?;
+    say_whole(rt, t.moved)?;
+    say(rt, b" moved exactly, ")?;
+    say_whole(rt, t.returned)?;
+    say(rt, b" brought back; ")?;
+    say_whole(rt, t.inside)?;
+    say(rt, b" voxels inside, ")?;
+    say_whole(rt, t.filled)?;
+    say(rt, b" filled\n")?;
+    Ok(t.wrong)
 }
 
-fn main() {
+fn main(rt: HostRuntime) -> io::Result<()> {
     let phantom = phantom();
-    let near0 = say_totals(b" shifts, order 0: ", run_all(0, NEAR, 0, 1, &phantom));
-    let near1 = say_totals(b" shifts, order 1: ", run_all(0, NEAR, 1, 0, &phantom));
+    let near0 = say_totals(&rt, b" shifts, order 0: ", run_all(0, NEAR, 0, 1, &phantom))?;
+    let near1 = say_totals(&rt, b" shifts, order 1: ", run_all(0, NEAR, 1, 0, &phantom))?;
     let far0 = say_totals(
+        &rt,
         b" far shifts, order 0: ",
         run_all(NEAR, ALL, 0, 1, &phantom),
-    );
+    )?;
     let far1 = say_totals(
+        &rt,
         b" far shifts, order 1: ",
         run_all(NEAR, ALL, 1, 0, &phantom),
-    );
-    say_whole(plus(plus(near0, near1), plus(far0, far1)));
-    say(b" voxels differ\n");
+    )?;
+    say_whole(&rt, plus(plus(near0, near1), plus(far0, far1)))?;
+    say(&rt, b" voxels differ\n")
 }

@@ -14,6 +14,7 @@ use numbers::requests::request_of;
 use refusal::Verdict;
 use request::Request;
 use resample::{Answer, shift, spline_filter, spline_filter1d, zoom};
+use std::io;
 
 // What the buffers hold before a call: a number that no answer has, and no code.
 pub const BLANK: f64 = -1234567.890625;
@@ -71,11 +72,11 @@ pub fn calls_for(words: &[u64], entry: usize) -> u64 {
 }
 
 // Starts the line of an entry.
-pub fn say_calls(words: &[u64], entry: usize, name: &[u8]) {
-    say(name);
-    say(b": ");
-    say_whole(calls_for(words, entry));
-    say(b" calls, ");
+pub fn say_calls(rt: &impl Print, words: &[u64], entry: usize, name: &[u8]) -> io::Result<()> {
+    say(rt, name)?;
+    say(rt, b": ")?;
+    say_whole(rt, calls_for(words, entry))?;
+    say(rt, b" calls, ")
 }
 
 // What the call asks for.

@@ -15,6 +15,7 @@ use recorded::lengths::{
 };
 use refusal::{Verdict, number_by};
 use resample::number_in;
+use std::io;
 
 // Document 02's number of an index outside the output.
 const OUTSIDE: u32 = 11;
@@ -225,11 +226,11 @@ fn ask_entry(words: &[u64], entry: usize) -> Alone {
 }
 
 // Writes the line of one entry.
-pub fn alone_line(words: &[u64], entry: usize, name: &[u8]) {
+pub fn alone_line(rt: &impl Print, words: &[u64], entry: usize, name: &[u8]) -> io::Result<()> {
     let r = ask_entry(words, entry);
-    say(name);
-    say(b": ");
-    say_whole(r.voxels);
-    say(b" voxels one by one, compared ");
-    say_compared(r.replay, b" differ ");
+    say(rt, name)?;
+    say(rt, b": ")?;
+    say_whole(rt, r.voxels)?;
+    say(rt, b" voxels one by one, compared ")?;
+    say_compared(rt, r.replay, b" differ ")
 }

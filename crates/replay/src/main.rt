@@ -17,6 +17,7 @@ use recorded::calls::{
 };
 use recorded::lengths::{OUTPUT_ROOM, WORK_ROOM, is_call};
 use resample::{Answer, number_in};
+use std::io;
 
 // The place of an answer in the tally: 0 to 9, and behind them 12.
 fn place_of(number: u32) -> usize {
@@ -71,43 +72,44 @@ fn replay_entry(words: &[u64], entry: usize, ends: &mut [u64; 11]) -> Replay {
     r
 }
 
-fn say_count(n: u64) {
-    say(b" ");
-    say_whole(n);
+fn say_count(rt: &impl Print, n: u64) -> io::Result<()> {
+    say(rt, b" ")?;
+    say_whole(rt, n)
 }
 
-fn say_ends(ends: &[u64; 11]) {
+fn say_ends(rt: &impl Print, ends: &[u64; 11]) -> io::Result<()> {
     let mut n = 0;
     while n < 11 {
-        say_count(ends[n]);
+        say_count(rt, ends[n])?;
         n += 1;
     }
+    Ok(())
 }
 
 // Writes one line, and answers where the calls end.
-fn replay_line(words: &[u64], entry: usize, name: &[u8]) -> usize {
+fn replay_line(rt: &impl Print, words: &[u64], entry: usize, name: &[u8]) -> io::Result<usize> {
     let mut ends = [0u64; 11];
     let r = replay_entry(words, entry, &mut ends);
-    say_calls(words, entry, name);
-    say(b"answers 0 to 9, 12:");
-    say_ends(&ends);
-    say(b", compared ");
-    say_compared(r, b" differ ");
-    r.at
+    say_calls(rt, words, entry, name)?;
+    say(rt, b"answers 0 to 9, 12:")?;
+    say_ends(rt, &ends)?;
+    say(rt, b", compared ")?;
+    say_compared(rt, r, b" differ ")?;
+    Ok(r.at)
 }
 
-fn replay_all(words: &[u64]) {
-    replay_line(words, 0, b"shift");
-    replay_line(words, 1, b"zoom");
-    replay_line(words, 2, b"spline_filter");
-    let end = replay_line(words, 3, b"spline_filter1d");
-    alone_line(words, 0, b"shift_voxel");
-    alone_line(words, 1, b"zoom_voxel");
-    say_end(words, end);
+fn replay_all(rt: &impl Print, words: &[u64]) -> io::Result<()> {
+    replay_line(rt, words, 0, b"shift")?;
+    replay_line(rt, words, 1, b"zoom")?;
+    replay_line(rt, words, 2, b"spline_filter")?;
+    let end = replay_line(rt, words, 3, b"spline_filter1d")?;
+    alone_line(rt, words, 0, b"shift_voxel")?;
+    alone_line(rt, words, 1, b"zoom_voxel")?;
+    say_end(rt, words, end)
 }
 
-fn main() {
+fn main(rt: HostRuntime) -> io::Result<()> {
     let mut words = [0u64; 196608];
-    let n = load(&mut words);
-    replay_all(&words[..n]);
+    let n = load(&rt, &mut words);
+    replay_all(&rt, &words[..n])
 }

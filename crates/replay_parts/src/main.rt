@@ -14,6 +14,7 @@ use answer_file::words::{after, in_pool, whole_at};
 use axes::{axis_case, fold_case, length_case, rounding_case, weights_case};
 use filters::{lane_case, volume_case};
 use pads::pad_case;
+use std::io;
 
 fn replay_case(words: &[u64], r: Replay, kind: usize) -> Replay {
     match kind {
@@ -48,30 +49,36 @@ fn replay_section(words: &[u64], from: usize, kind: usize) -> Replay {
 }
 
 // Writes one line, and answers where the next section starts.
-fn replay_kind(words: &[u64], from: usize, kind: usize, name: &[u8]) -> usize {
+fn replay_kind(
+    rt: &impl Print,
+    words: &[u64],
+    from: usize,
+    kind: usize,
+    name: &[u8],
+) -> io::Result<usize> {
     let r = replay_section(words, from, kind);
-    say(name);
-    say_compared(r, b" differ ");
-    r.at
+    say(rt, name)?;
+    say_compared(rt, r, b" differ ")?;
+    Ok(r.at)
 }
 
 // The sections stand behind the pool.
-fn replay_all(words: &[u64]) {
+fn replay_all(rt: &impl Print, words: &[u64]) -> io::Result<()> {
     let pool = whole_at(words, 0, 0);
     let roundings = in_pool(words, pool);
-    let lengths = replay_kind(words, roundings, 0, b"roundings ");
-    let folds = replay_kind(words, lengths, 1, b"lengths ");
-    let weights = replay_kind(words, folds, 2, b"folds ");
-    let records = replay_kind(words, weights, 3, b"weights ");
-    let lanes = replay_kind(words, records, 4, b"records ");
-    let volumes = replay_kind(words, lanes, 5, b"lanes ");
-    let pads = replay_kind(words, volumes, 6, b"volumes ");
-    let end = replay_kind(words, pads, 7, b"pads ");
-    say_end(words, end);
+    let lengths = replay_kind(rt, words, roundings, 0, b"roundings ")?;
+    let folds = replay_kind(rt, words, lengths, 1, b"lengths ")?;
+    let weights = replay_kind(rt, words, folds, 2, b"folds ")?;
+    let records = replay_kind(rt, words, weights, 3, b"weights ")?;
+    let lanes = replay_kind(rt, words, records, 4, b"records ")?;
+    let volumes = replay_kind(rt, words, lanes, 5, b"lanes ")?;
+    let pads = replay_kind(rt, words, volumes, 6, b"volumes ")?;
+    let end = replay_kind(rt, words, pads, 7, b"pads ")?;
+    say_end(rt, words, end)
 }
 
-fn main() {
+fn main(rt: HostRuntime) -> io::Result<()> {
     let mut words = [0u64; 98304];
-    let n = load(&mut words);
-    replay_all(&words[..n]);
+    let n = load(&rt, &mut words);
+    replay_all(&rt, &words[..n])
 }

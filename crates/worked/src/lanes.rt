@@ -4,6 +4,7 @@ ghost use Rattle.std.specs.Prelude.{◌≡◌, ◌+◌, ◌<◌, ◌≤◌, leng
 
 use crate::print::{bits, say_codes, say_numbers};
 use answer_file::print::{say, say_whole};
+use std::io;
 
 fn same_numbers(a: &[f64], b: &[f64]) -> bool {
     if a.len() != b.len() {
@@ -31,7 +32,7 @@ fn run_end(values: &[f64], codes: &[u8], at: usize, lane: usize) -> usize
         if !same_numbers(&values[at..second], &values[next..after]) {
             return next;
         }
-        if !check::same(&codes[at..second], &codes[next..after]) {
+        if codes[at..second] != codes[next..after] {
             return next;
         }
         next = after;
@@ -40,23 +41,29 @@ fn run_end(values: &[f64], codes: &[u8], at: usize, lane: usize) -> usize
 }
 
 // A lane, its codes, and how many lanes are like it.
-fn say_run(values: &[f64], codes: &[u8], lanes: usize) {
-    say_numbers(values);
-    say(b", codes");
-    say_codes(codes);
-    say(b" (");
-    say_whole(lanes as u64);
-    say(b" lanes alike)");
+fn say_run(rt: &impl Print, values: &[f64], codes: &[u8], lanes: usize) -> io::Result<()> {
+    say_numbers(rt, values)?;
+    say(rt, b", codes")?;
+    say_codes(rt, codes)?;
+    say(rt, b" (")?;
+    say_whole(rt, lanes as u64)?;
+    say(rt, b" lanes alike)")
 }
 
-pub fn say_lanes(values: &[f64], codes: &[u8], lane: usize)
+pub fn say_lanes(rt: &impl Print, values: &[f64], codes: &[u8], lane: usize) -> io::Result<()>
     requires { (0 < lane) × (length codes.now ≡ length values.now) }
 {
     let mut at = 0;
     while lane <= values.len() - at {
         let second = at + lane;
         let next = run_end(values, codes, at, lane);
-        say_run(&values[at..second], &codes[at..second], (next - at) / lane);
+        say_run(
+            rt,
+            &values[at..second],
+            &codes[at..second],
+            (next - at) / lane,
+        )?;
         at = next;
     }
+    Ok(())
 }

@@ -7,6 +7,7 @@ use answer_file::print::{say, say_whole};
 use refusal::{Refusal, Verdict, number_of};
 use request::Request;
 use resample::{Answer, counts_in, shift, spline_filter, spline_filter1d, zoom};
+use std::io;
 
 // What the buffers hold before a call: a number that no answer here has, and no code.
 pub const BLANK: f64 = 0.125;
@@ -45,24 +46,25 @@ fn is_untouched(output: &[f64], coverage: &[u8], work: &[f64]) -> bool {
     false
 }
 
-fn say_refusal(why: Refusal, untouched: bool) {
-    say(b" refusal ");
-    say_whole(number_of(why) as u64);
+fn say_refusal(rt: &impl Print, why: Refusal, untouched: bool) -> io::Result<()> {
+    say(rt, b" refusal ")?;
+    say_whole(rt, number_of(why) as u64)?;
     if untouched {
-        say(b", nothing written");
+        say(rt, b", nothing written")
     } else {
-        say(b", BUFFERS WRITTEN");
+        say(rt, b", BUFFERS WRITTEN")
     }
 }
 
 // Ends the line of one more request: n is how many came before it.
-fn end_line(n: u64) -> u64 {
-    say(b"\n");
-    std::num::wrapping_add_u64(n, 1)
+fn end_line(rt: &impl Print, n: u64) -> io::Result<u64> {
+    say(rt, b"\n")?;
+    Ok(std::num::wrapping_add_u64(n, 1))
 }
 
 // The line of a shift or a zoom.
 fn answer_line(
+    rt: &impl Print,
     n: u64,
     name: &[u8],
     answer: Answer,
@@ -70,79 +72,117 @@ fn answer_line(
     coverage: &[u8],
     work: &[f64],
     lane: usize,
-) -> u64
+) -> io::Result<u64>
     requires { (0 < lane) × (length coverage.now ≡ length output.now) }
 {
-    say(name);
-    say(b":");
+    say(rt, name)?;
+    say(rt, b":")?;
     match answer {
-        Answer::Done(_) => say_lanes(output, coverage, lane),
-        Answer::Refused(why) => say_refusal(why, is_untouched(output, coverage, work)),
+        Answer::Done(_) => say_lanes(rt, output, coverage, lane)?,
+        Answer::Refused(why) => say_refusal(rt, why, is_untouched(output, coverage, work))?,
     }
-    say(b"; counts");
-    say_counts(counts_in(answer));
-    end_line(n)
+    say(rt, b"; counts")?;
+    say_counts(rt, counts_in(answer))?;
+    end_line(rt, n)
 }
 
 // The line of a shift of 7 by 7 by 7 voxels: the codes of the lane in the middle, to which the other
 // two axes say 0.
-pub fn middle_line(n: u64, name: &[u8], r: Request) -> u64 {
+pub fn middle_line(rt: &impl Print, n: u64, name: &[u8], r: Request) -> io::Result<u64> {
     let input = [1.0; 343];
     let mut output = [BLANK; 343];
     let mut coverage = [NO_CODE; 343];
     let mut work = [BLANK; 1];
     let answer = shift(r, &input, &mut output, &mut coverage, &mut work);
-    say(name);
-    say(b": codes");
-    say_codes(&coverage[168..175]);
-    say(b"; counts");
-    say_counts(counts_in(answer));
-    end_line(n)
+    say(rt, name)?;
+    say(rt, b": codes")?;
+    say_codes(rt, &coverage[168..175])?;
+    say(rt, b"; counts")?;
+    say_counts(rt, counts_in(answer))?;
+    end_line(rt, n)
 }
 
 // The line of a filter: every voxel. A filter has no codes and no counts.
-fn filter_line(n: u64, name: &[u8], verdict: Verdict, output: &[f64]) -> u64 {
-    say(name);
-    say(b":");
+fn filter_line(
+    rt: &impl Print,
+    n: u64,
+    name: &[u8],
+    verdict: Verdict,
+    output: &[f64],
+) -> io::Result<u64> {
+    say(rt, name)?;
+    say(rt, b":")?;
     match verdict {
-        Verdict::Passed => say_numbers(output),
-        Verdict::Refused(why) => say_refusal(why, is_blank(output)),
+        Verdict::Passed => say_numbers(rt, output)?,
+        Verdict::Refused(why) => say_refusal(rt, why, is_blank(output))?,
     }
-    end_line(n)
+    end_line(rt, n)
 }
 
 // The volume that comes out stays in `output`, which is blank before.
-pub fn shift_into(n: u64, name: &[u8], r: Request, input: &[f64], output: &mut [f64]) -> u64
+pub fn shift_into(
+    rt: &impl Print,
+    n: u64,
+    name: &[u8],
+    r: Request,
+    input: &[f64],
+    output: &mut [f64],
+) -> io::Result<u64>
     requires { length output.old ≡ 16 }
 {
     let mut coverage = [NO_CODE; 16];
     let mut work = [BLANK; 16];
     let answer = shift(r, input, output, &mut coverage, &mut work);
-    answer_line(n, name, answer, output, &coverage, &work, 4)
+    answer_line(rt, n, name, answer, output, &coverage, &work, 4)
 }
 
-pub fn shift_line(n: u64, name: &[u8], r: Request, input: &[f64]) -> u64 {
+pub fn shift_line(
+    rt: &impl Print,
+    n: u64,
+    name: &[u8],
+    r: Request,
+    input: &[f64],
+) -> io::Result<u64> {
     let mut output = [BLANK; 16];
-    shift_into(n, name, r, input, &mut output)
+    shift_into(rt, n, name, r, input, &mut output)
 }
 
 // The last axis comes out 7 long.
-pub fn zoom_line(n: u64, name: &[u8], r: Request, input: &[f64]) -> u64 {
+pub fn zoom_line(
+    rt: &impl Print,
+    n: u64,
+    name: &[u8],
+    r: Request,
+    input: &[f64],
+) -> io::Result<u64> {
     let mut output = [BLANK; 28];
     let mut coverage = [NO_CODE; 28];
     let mut work = [BLANK; 16];
     let answer = zoom(r, input, &mut output, &mut coverage, &mut work);
-    answer_line(n, name, answer, &output, &coverage, &work, 7)
+    answer_line(rt, n, name, answer, &output, &coverage, &work, 7)
 }
 
-pub fn spline_filter_line(n: u64, name: &[u8], r: Request, input: &[f64]) -> u64 {
+pub fn spline_filter_line(
+    rt: &impl Print,
+    n: u64,
+    name: &[u8],
+    r: Request,
+    input: &[f64],
+) -> io::Result<u64> {
     let mut output = [BLANK; 16];
     let verdict = spline_filter(r, input, &mut output);
-    filter_line(n, name, verdict, &output)
+    filter_line(rt, n, name, verdict, &output)
 }
 
-pub fn spline_filter1d_line(n: u64, name: &[u8], r: Request, axis: usize, input: &[f64]) -> u64 {
+pub fn spline_filter1d_line(
+    rt: &impl Print,
+    n: u64,
+    name: &[u8],
+    r: Request,
+    axis: usize,
+    input: &[f64],
+) -> io::Result<u64> {
     let mut output = [BLANK; 16];
     let verdict = spline_filter1d(r, axis, input, &mut output);
-    filter_line(n, name, verdict, &output)
+    filter_line(rt, n, name, verdict, &output)
 }

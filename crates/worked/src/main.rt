@@ -11,6 +11,7 @@ use lines::{
     BLANK, middle_line, shift_into, shift_line, spline_filter_line, spline_filter1d_line, zoom_line,
 };
 use request::Request;
+use std::io;
 
 mod lanes;
 mod lines;
@@ -54,78 +55,109 @@ fn still(order: usize) -> Request {
 
 // A shift on the last axis.
 fn along_line(
+    rt: &impl Print,
     n: u64,
     name: &[u8],
     shift: f64,
     order: usize,
     mode: BorderMode,
     volume: &[f64],
-) -> u64 {
-    shift_line(n, name, along(shift, order, mode), volume)
+) -> io::Result<u64> {
+    shift_line(rt, n, name, along(shift, order, mode), volume)
 }
 
-fn constant_lines(before: u64, volume: &[f64]) -> u64 {
+fn constant_lines(rt: &impl Print, before: u64, volume: &[f64]) -> io::Result<u64> {
     let mode = BorderMode::Constant(-1.0);
     let mut that = [BLANK; 16];
     let mut back = [BLANK; 16];
     let mut n = before;
-    n = shift_into(n, b"Constant -1, 1", along(1.0, 1, mode), volume, &mut that);
-    n = shift_into(n, b"that, then -1", along(-1.0, 1, mode), &that, &mut back);
-    n = along_line(n, b"Constant -1, -0.5", -0.5, 1, mode, volume);
-    n = along_line(n, b"Constant -1, 0.5, order 0", 0.5, 0, mode, volume);
-    along_line(n, b"Constant -1, -0.5, order 0", -0.5, 0, mode, volume)
+    n = shift_into(
+        rt,
+        n,
+        b"Constant -1, 1",
+        along(1.0, 1, mode),
+        volume,
+        &mut that,
+    )?;
+    n = shift_into(
+        rt,
+        n,
+        b"that, then -1",
+        along(-1.0, 1, mode),
+        &that,
+        &mut back,
+    )?;
+    n = along_line(rt, n, b"Constant -1, -0.5", -0.5, 1, mode, volume)?;
+    n = along_line(rt, n, b"Constant -1, 0.5, order 0", 0.5, 0, mode, volume)?;
+    along_line(rt, n, b"Constant -1, -0.5, order 0", -0.5, 0, mode, volume)
 }
 
-fn other_lines(before: u64, volume: &[f64]) -> u64 {
+fn other_lines(rt: &impl Print, before: u64, volume: &[f64]) -> io::Result<u64> {
     let nearest = BorderMode::Nearest;
     let finer = ask([1.0, 1.0, 1.75], 1, BorderMode::Mirror);
     let far = ask([8.0, 0.0, 0.0], 1, BorderMode::Reflect);
     let mut n = before;
-    n = along_line(n, b"Nearest, 2", 2.0, 1, nearest, volume);
-    n = along_line(n, b"Nearest, -2", -2.0, 1, nearest, volume);
-    n = zoom_line(n, b"zoom 1, 1, 1.75, Mirror", finer, volume);
-    shift_line(n, b"Reflect, shift 8, 0, 0", far, volume)
+    n = along_line(rt, n, b"Nearest, 2", 2.0, 1, nearest, volume)?;
+    n = along_line(rt, n, b"Nearest, -2", -2.0, 1, nearest, volume)?;
+    n = zoom_line(rt, n, b"zoom 1, 1, 1.75, Mirror", finer, volume)?;
+    shift_line(rt, n, b"Reflect, shift 8, 0, 0", far, volume)
 }
 
 // #103: where a neighbour with a weight was folded, and where none was.
-fn folded_lines(before: u64, volume: &[f64]) -> u64 {
+fn folded_lines(rt: &impl Print, before: u64, volume: &[f64]) -> io::Result<u64> {
     let mut n = before;
-    n = along_line(n, b"Reflect, 0.5", 0.5, 1, BorderMode::Reflect, volume);
-    n = along_line(n, b"Mirror, 0.5", 0.5, 1, BorderMode::Mirror, volume);
-    n = along_line(n, b"Nearest, 0.25", 0.25, 1, BorderMode::Nearest, volume);
-    n = middle_line(n, b"axis of 7, shift 0, order 1", still(1));
-    n = middle_line(n, b"axis of 7, shift 0, order 2", still(2));
-    n = middle_line(n, b"axis of 7, shift 0, order 3", still(3));
-    n = middle_line(n, b"axis of 7, shift 0, order 4", still(4));
-    middle_line(n, b"axis of 7, shift 0, order 5", still(5))
+    n = along_line(rt, n, b"Reflect, 0.5", 0.5, 1, BorderMode::Reflect, volume)?;
+    n = along_line(rt, n, b"Mirror, 0.5", 0.5, 1, BorderMode::Mirror, volume)?;
+    n = along_line(
+        rt,
+        n,
+        b"Nearest, 0.25",
+        0.25,
+        1,
+        BorderMode::Nearest,
+        volume,
+    )?;
+    n = middle_line(rt, n, b"axis of 7, shift 0, order 1", still(1))?;
+    n = middle_line(rt, n, b"axis of 7, shift 0, order 2", still(2))?;
+    n = middle_line(rt, n, b"axis of 7, shift 0, order 3", still(3))?;
+    n = middle_line(rt, n, b"axis of 7, shift 0, order 4", still(4))?;
+    middle_line(rt, n, b"axis of 7, shift 0, order 5", still(5))
 }
 
 // #104: the edge is repeated, before the scan and behind it.
-fn replicated_lines(before: u64, volume: &[f64]) -> u64 {
+fn replicated_lines(rt: &impl Print, before: u64, volume: &[f64]) -> io::Result<u64> {
     let mode = BorderMode::Replicate;
     let mut n = before;
-    n = along_line(n, b"Replicate, -2", -2.0, 1, mode, volume);
-    n = along_line(n, b"Replicate, 2", 2.0, 1, mode, volume);
-    n = along_line(n, b"Replicate, 0.5", 0.5, 1, mode, volume);
-    n = along_line(n, b"Replicate, -1,048,575.5", -1048575.5, 1, mode, volume);
-    along_line(n, b"Replicate, -0.5, order 0", -0.5, 0, mode, volume)
+    n = along_line(rt, n, b"Replicate, -2", -2.0, 1, mode, volume)?;
+    n = along_line(rt, n, b"Replicate, 2", 2.0, 1, mode, volume)?;
+    n = along_line(rt, n, b"Replicate, 0.5", 0.5, 1, mode, volume)?;
+    n = along_line(
+        rt,
+        n,
+        b"Replicate, -1,048,575.5",
+        -1048575.5,
+        1,
+        mode,
+        volume,
+    )?;
+    along_line(rt, n, b"Replicate, -0.5, order 0", -0.5, 0, mode, volume)
 }
 
 // Not in the document, so that all four entries run: README.md says where these bits come from.
-fn filter_lines(before: u64, volume: &[f64]) -> u64 {
+fn filter_lines(rt: &impl Print, before: u64, volume: &[f64]) -> io::Result<u64> {
     let cubic = along(0.0, 3, BorderMode::Mirror);
-    let n = spline_filter_line(before, b"spline_filter, order 3, Mirror", cubic, volume);
+    let n = spline_filter_line(rt, before, b"spline_filter, order 3, Mirror", cubic, volume)?;
     let name = b"spline_filter1d, axis 2, order 3, Mirror";
-    spline_filter1d_line(n, name, cubic, 2, volume)
+    spline_filter1d_line(rt, n, name, cubic, 2, volume)
 }
 
-fn main() {
+fn main(rt: HostRuntime) -> io::Result<()> {
     let volume = volume();
-    let constant = constant_lines(0, &volume);
-    let resampled = other_lines(constant, &volume);
-    let folded = folded_lines(resampled, &volume);
-    let replicated = replicated_lines(folded, &volume);
-    let all = filter_lines(replicated, &volume);
-    say_whole(all);
-    say(b" requests\n");
+    let constant = constant_lines(&rt, 0, &volume)?;
+    let resampled = other_lines(&rt, constant, &volume)?;
+    let folded = folded_lines(&rt, resampled, &volume)?;
+    let replicated = replicated_lines(&rt, folded, &volume)?;
+    let all = filter_lines(&rt, replicated, &volume)?;
+    say_whole(&rt, all)?;
+    say(&rt, b" requests\n")
 }

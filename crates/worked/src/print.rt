@@ -1,18 +1,18 @@
 // Printing. Each number of a list has a space before it.
 use answer_file::print::{say, say_whole, whole_part};
 use coverage::counts::Counts;
-use libc::STDOUT_FILENO;
+use std::io;
 
-fn say_count(n: usize) {
-    say(b" ");
-    say_whole(n as u64);
+fn say_count(rt: &impl Print, n: usize) -> io::Result<()> {
+    say(rt, b" ")?;
+    say_whole(rt, n as u64)
 }
 
-pub fn say_counts(counts: Counts) {
-    say_count(counts.computed);
-    say_count(counts.filled);
-    say_count(counts.defaulted);
-    say_count(counts.folded);
+pub fn say_counts(rt: &impl Print, counts: Counts) -> io::Result<()> {
+    say_count(rt, counts.computed)?;
+    say_count(rt, counts.filled)?;
+    say_count(rt, counts.defaulted)?;
+    say_count(rt, counts.folded)
 }
 
 // The bits of x; one pattern stands for every NaN.
@@ -24,43 +24,45 @@ pub fn bits(x: f64) -> u64 {
 }
 
 // The size of x after its sign if that is a whole number; else the bits of x.
-fn say_signed(sign: &[u8], size: f64, x: f64) {
+fn say_signed(rt: &impl Print, sign: &[u8], size: f64, x: f64) -> io::Result<()> {
     let n = whole_part(size);
     if bits(std::num::nearest_u64_to_f64(n)) == bits(size) {
-        say(sign);
-        say_whole(n);
+        say(rt, sign)?;
+        say_whole(rt, n)
     } else {
-        say(b" 0x");
-        io::print_hex(STDOUT_FILENO, bits(x), 16);
+        let word = bits(x);
+        print!(rt; " 0x{word:016x}")
     }
 }
 
 // A whole number as such; any other, and -0.0, by its bits.
-fn say_number(x: f64) {
+fn say_number(rt: &impl Print, x: f64) -> io::Result<()> {
     if x < 0.0 {
-        say_signed(b" -", -x, x);
+        say_signed(rt, b" -", -x, x)
     } else {
-        say_signed(b" ", x, x);
+        say_signed(rt, b" ", x, x)
     }
 }
 
-pub fn say_numbers(values: &[f64]) {
+pub fn say_numbers(rt: &impl Print, values: &[f64]) -> io::Result<()> {
     let mut i = 0;
     while i < values.len() {
-        say_number(values[i]);
+        say_number(rt, values[i])?;
         i += 1;
     }
+    Ok(())
 }
 
-fn say_code(code: u8) {
-    say(b" ");
-    say_whole(code as u64);
+fn say_code(rt: &impl Print, code: u8) -> io::Result<()> {
+    say(rt, b" ")?;
+    say_whole(rt, code as u64)
 }
 
-pub fn say_codes(codes: &[u8]) {
+pub fn say_codes(rt: &impl Print, codes: &[u8]) -> io::Result<()> {
     let mut i = 0;
     while i < codes.len() {
-        say_code(codes[i]);
+        say_code(rt, codes[i])?;
         i += 1;
     }
+    Ok(())
 }
