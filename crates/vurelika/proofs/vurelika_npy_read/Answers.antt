@@ -1,5 +1,4 @@
 -- `vurelika::vurelika_npy_read` meets its contract.
-use borrow.Author.Rules.{rules}
 use Rattle.vurelika.proofs.Doors.{npy_answered}
 use Rattle.vurelika.proofs.vurelika_npy_read.Goals as goal
 

@@ -5,7 +5,6 @@ use Rattle.resample.specs.Call.{shift_call}
 use Rattle.numbers.specs.Numbers.{request_of}
 use Rattle.vurelika.proofs.Empty.{empty_refused_shift}
 use Rattle.vurelika.proofs.Doors.{answers, refuses, unknown}
-use borrow.Author.Rules.{rules}
 use Rattle.vurelika.proofs.vurelika_shift.Goals.{After-is_mode}
 use Rattle.vurelika.proofs.vurelika_shift.Goals as goal
 

@@ -4,7 +4,6 @@ use Rattle.request.specs.declared.Request.{Request}
 use Rattle.resample.specs.Call.{spline_filter_call}
 use Rattle.numbers.specs.Numbers.{plain_request_of}
 use Rattle.vurelika.proofs.Doors.{filter_answers, filter_unknown}
-use borrow.Author.Rules.{rules}
 use Rattle.vurelika.proofs.vurelika_spline_filter.Goals as goal
 
 pub returns-then-is_mode : goal.returns-then-is_mode

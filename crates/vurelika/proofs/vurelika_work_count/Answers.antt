@@ -5,7 +5,7 @@ use mathlib.Core.Bool.{true, false}
 use mathlib.Core.List.{[], ◌∷◌}
 use lib.Dec.{ltb}
 use lib.Ieee.{of_bits, of_int}
-use borrow.Author.Tests.{lt-ltb, le-ltb, not-true, not-false}
+use borrow.Author.Tests.{lt-ltb, le-ltb}
 use Rattle.exact.specs.Rounded.{num}
 use Rattle.request.specs.declared.Request.{Request}
 use Rattle.request.specs.Sizes.{needed}
@@ -14,7 +14,6 @@ use Rattle.request.specs.Conditions.{bad_lengths}
 use Rattle.request.proofs.Requests.{good_lengths}
 use Rattle.numbers.specs.Numbers.{is_mode, plain_request_of}
 use Rattle.vurelika.specs.Door.{work_count}
-use borrow.Author.Rules.{rules}
 use Rattle.vurelika.proofs.vurelika_work_count.Goals.{Else-bad_lengths, Else-not-is_mode}
 use Rattle.vurelika.proofs.vurelika_work_count.Goals as goal
 

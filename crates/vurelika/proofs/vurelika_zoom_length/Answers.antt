@@ -5,7 +5,6 @@ use Rattle.axis.specs.Length.{output_length}
 use Rattle.request.specs.Conditions.{bad_length, bad_zoom, zooms_slice, bad_output}
 use Rattle.request.proofs.Requests.{good_zoom}
 use Rattle.vurelika.specs.Door.{zoom_length}
-use borrow.Author.Rules.{rules}
 use Rattle.vurelika.proofs.vurelika_zoom_length.Goals.{After-bad_output, After-zooms_slice, Else-bad_length, Else-bad_zoom}
 use Rattle.vurelika.proofs.vurelika_zoom_length.Goals as goal
 

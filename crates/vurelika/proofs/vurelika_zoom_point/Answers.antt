@@ -1,7 +1,6 @@
 -- `vurelika::vurelika_zoom_point` meets its contract: the literal 0.0 is the number 0.
 use mathlib.Core.Path.{sym, ◌∙◌}
 use lib.Ieee.{of_bits, of_int}
-use borrow.Author.Rules.{rules}
 use Rattle.vurelika.specs.Door.{zoom_pointing}
 use Rattle.vurelika.proofs.Doors.{point_answers, point_unknown}
 use Rattle.vurelika.proofs.vurelika_zoom_point.Goals as goal

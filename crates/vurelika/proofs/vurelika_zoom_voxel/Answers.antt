@@ -5,7 +5,6 @@ use Rattle.request.specs.declared.Request.{Request}
 use Rattle.one_voxel.specs.Call.{zoom_voxel_call}
 use Rattle.numbers.specs.Numbers.{request_of}
 use Rattle.vurelika.proofs.Doors.{voxel_answers, voxel_unknown}
-use borrow.Author.Rules.{rules}
 use Rattle.vurelika.proofs.vurelika_zoom_voxel.Goals as goal
 
 pub returns-then-is_mode : goal.returns-then-is_mode
