@@ -1,8 +1,8 @@
 // One line for each request: what the entry answered, and what it left in the buffers.
 ghost use Rattle.std.specs.Prelude.{◌≡◌, ◌<◌, length};
 
-use crate::lanes::say_lanes;
 use crate::print::{bits, say_codes, say_counts, say_numbers};
+use crate::runs::say_lanes;
 use answer_file::print::{say, say_whole};
 use refusal::{Refusal, Verdict, number_of};
 use request::Request;

@@ -13,9 +13,9 @@ use lines::{
 use request::Request;
 use std::io;
 
-mod lanes;
 mod lines;
 mod print;
+mod runs;
 
 // 2 by 2 by 4: each lane of the last axis is 10 20 30 40.
 fn volume() -> [f64; 16]
