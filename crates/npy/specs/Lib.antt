@@ -1,4 +1,4 @@
--- NumPy's.npy files, version 1.0, of little-endian f64 in C order on three axes: what is such a file, what its reader and its writer leave.
+-- NumPy's .npy files, version 1.0, of little-endian f64 in C order on three axes: what is such a file, what its reader and its writer leave.
 pub mod Header
 pub mod File
 pub mod Call

@@ -74,7 +74,7 @@ module _ (c : Filing) where
   file_number = number_by (file_call c).answer
 
   file_later : Later (file_checks c)
-  file_later = elim c [
+  file_later = elim c as (λ (k : Filing). Later (file_checks k)) [
     | measuring file dims ↦ (refl, refl)
     | reading file volume ↦ (refl, refl)
     | writing d volume bytes ↦ (refl, refl)
@@ -82,7 +82,7 @@ module _ (c : Filing) where
 
   call_is : file_call c ≡ npy_call_by (verdict c) (made c) (held c)
   unfolding dims_call read_call write_call
-  call_is = elim c [ measuring file dims ↦ refl | reading file volume ↦ refl | writing d volume bytes ↦ refl ]
+  call_is = elim c as (λ (k : Filing). file_call k ≡ npy_call_by (verdict k) (made k) (held k)) [ measuring file dims ↦ refl | reading file volume ↦ refl | writing d volume bytes ↦ refl ]
 
   file_numbered : file_number ≡ behind (file_checks c) file_later (other_file c)
   file_numbered = ap (λ (n : NpyCall). number_by n.answer) call_is ∙ by (verdict c) (made c) (held c)

@@ -181,11 +181,11 @@ module _ (e : Entry) (r : Request) (input output : List Float) (coverage : List 
   number = number_in (call e r input output coverage work).answer
 
   apart : distinct tests ≡ true
-  apart = elim e [ shifting ↦ refl | zooming ↦ refl ]
+  apart = elim e as (λ (k : Entry). distinct (checks k r input (length output) (length coverage) (length work)) ≡ true) [ shifting ↦ refl | zooming ↦ refl ]
 
   pub numbered : number ≡ number_by (first tests)
   unfolding shift_call zoom_call
-  numbered = elim e [
+  numbered = elim e as (λ (k : Entry). number_in (call k r input output coverage work).answer ≡ number_by (first (checks k r input (length output) (length coverage) (length work)))) [
     | shifting ↦ by (first (checks shifting r input (length output) (length coverage) (length work))) (axes_of shifting r)
     | zooming ↦ by (first (checks zooming r input (length output) (length coverage) (length work))) (axes_of zooming r)
   ]
@@ -201,7 +201,7 @@ module _ (e : Entry) (r : Request) (input output : List Float) (coverage : List 
   success_exactly = success tests apart numbered
 
   pub answered : among (0 ∷ 1 ∷ 3 ∷ 4 ∷ 12 ∷ 5 ∷ 6 ∷ 7 ∷ 8 ∷ 9 ∷ []) number ≡ true
-  answered = one_of (1 ∷ 3 ∷ 4 ∷ 12 ∷ 5 ∷ 6 ∷ 7 ∷ 8 ∷ 9 ∷ []) tests (elim e [ shifting ↦ refl | zooming ↦ refl ]) numbered
+  answered = one_of (1 ∷ 3 ∷ 4 ∷ 12 ∷ 5 ∷ 6 ∷ 7 ∷ 8 ∷ 9 ∷ []) tests (elim e as (λ (k : Entry). all_say (λ why. among (1 ∷ 3 ∷ 4 ∷ 12 ∷ 5 ∷ 6 ∷ 7 ∷ 8 ∷ 9 ∷ []) (number_of why)) (checks k r input (length output) (length coverage) (length work)) ≡ true) [ shifting ↦ refl | zooming ↦ refl ]) numbered
 
 -- ---- `spline_filter` and `spline_filter1d`
 module _ (f : Filter) (r : Request) (input output : List Float) where
@@ -212,11 +212,11 @@ module _ (f : Filter) (r : Request) (input output : List Float) where
   filter_number = number_by (filter_call f r input output).answer
 
   filter_apart : distinct filter_tests ≡ true
-  filter_apart = elim f [ whole ↦ refl | along axis ↦ refl ]
+  filter_apart = elim f as (λ (k : Filter). distinct (filter_checks k r input (length output)) ≡ true) [ whole ↦ refl | along axis ↦ refl ]
 
   pub filter_numbered : filter_number ≡ number_by (first filter_tests)
   unfolding spline_filter_call spline_filter1d_call
-  filter_numbered = elim f [
+  filter_numbered = elim f as (λ (k : Filter). number_by (filter_call k r input output).answer ≡ number_by (first (filter_checks k r input (length output)))) [
     | whole ↦ by (first (filter_checks whole r input (length output))) _
     | along axis ↦ by (first (filter_checks (along axis) r input (length output))) _
   ]
@@ -232,7 +232,7 @@ module _ (f : Filter) (r : Request) (input output : List Float) where
   filter-success_exactly = success filter_tests filter_apart filter_numbered
 
   pub filter-answered : among (0 ∷ 1 ∷ 2 ∷ 3 ∷ 6 ∷ 7 ∷ 8 ∷ []) filter_number ≡ true
-  filter-answered = one_of (1 ∷ 2 ∷ 3 ∷ 6 ∷ 7 ∷ 8 ∷ []) filter_tests (elim f [ whole ↦ refl | along axis ↦ refl ]) filter_numbered
+  filter-answered = one_of (1 ∷ 2 ∷ 3 ∷ 6 ∷ 7 ∷ 8 ∷ []) filter_tests (elim f as (λ (k : Filter). all_say (λ why. among (1 ∷ 2 ∷ 3 ∷ 6 ∷ 7 ∷ 8 ∷ []) (number_of why)) (filter_checks k r input (length output)) ≡ true) [ whole ↦ refl | along axis ↦ refl ]) filter_numbered
 
 -- ---- one voxel of `shift` or `zoom` (#105)
 module _ (e : Entry) (r : Request) (input work : List Float) (at : List ℕ) (value : List Float) (code : List ℕ) where
@@ -243,11 +243,11 @@ module _ (e : Entry) (r : Request) (input work : List Float) (at : List ℕ) (va
   voxel_number = number_by (voxel_call e r input work at value code).answer
 
   voxel_apart : distinct voxel_tests ≡ true
-  voxel_apart = elim e [ shifting ↦ refl | zooming ↦ refl ]
+  voxel_apart = elim e as (λ (k : Entry). distinct (voxel_checks k r input (length value) (length code) (length work) at) ≡ true) [ shifting ↦ refl | zooming ↦ refl ]
 
   pub voxel_numbered : voxel_number ≡ number_by (first voxel_tests)
   unfolding shift_voxel_call zoom_voxel_call
-  voxel_numbered = elim e [
+  voxel_numbered = elim e as (λ (k : Entry). number_by (voxel_call k r input work at value code).answer ≡ number_by (first (voxel_checks k r input (length value) (length code) (length work) at))) [
     | shifting ↦ by (first (voxel_checks shifting r input (length value) (length code) (length work) at)) _
     | zooming ↦ by (first (voxel_checks zooming r input (length value) (length code) (length work) at)) _
   ]
@@ -263,4 +263,4 @@ module _ (e : Entry) (r : Request) (input work : List Float) (at : List ℕ) (va
   voxel-success_exactly = success voxel_tests voxel_apart voxel_numbered
 
   pub voxel-answered : among (0 ∷ 1 ∷ 3 ∷ 4 ∷ 12 ∷ 5 ∷ 6 ∷ 7 ∷ 8 ∷ 9 ∷ 11 ∷ []) voxel_number ≡ true
-  voxel-answered = one_of (1 ∷ 3 ∷ 4 ∷ 12 ∷ 5 ∷ 6 ∷ 7 ∷ 8 ∷ 9 ∷ 11 ∷ []) voxel_tests (elim e [ shifting ↦ refl | zooming ↦ refl ]) voxel_numbered
+  voxel-answered = one_of (1 ∷ 3 ∷ 4 ∷ 12 ∷ 5 ∷ 6 ∷ 7 ∷ 8 ∷ 9 ∷ 11 ∷ []) voxel_tests (elim e as (λ (k : Entry). all_say (λ why. among (1 ∷ 3 ∷ 4 ∷ 12 ∷ 5 ∷ 6 ∷ 7 ∷ 8 ∷ 9 ∷ 11 ∷ []) (number_of why)) (voxel_checks k r input (length value) (length code) (length work) at) ≡ true) [ shifting ↦ refl | zooming ↦ refl ]) voxel_numbered

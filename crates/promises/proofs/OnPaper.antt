@@ -13,7 +13,8 @@ use Rattle.axis.specs.Length.{output_length}
 use Rattle.request.specs.declared.Request.{Request}
 use Rattle.refusal.specs.declared.Verdict.{Verdict}
 use Rattle.refusal.specs.declared.Verdict.TheVariants.{Passed, Refused}
-use Rattle.refusal.specs.Refusals.{Check, first, number_by}
+use Rattle.refusal.specs.Refusals.{Check, first, number_of, number_by}
+use Rattle.refusal.proofs.Firsts.{all_say}
 use Rattle.coverage.specs.Coverage.{kept_at}
 use Rattle.voxels.specs.Voxel.{voxel_at}
 use Rattle.one_voxel.specs.declared.Voxel.{Voxel}
@@ -43,10 +44,10 @@ module _ (e : Entry) (n : ℕ) (factor : Float) (order : ℕ) (prefilter : Bool)
   -- the call by its verdict
   by_tests : pointed ≡ point_call_by (first point_tests) order mode axis_of i coordinate at weight
   unfolding shift_point_call zoom_point_call
-  by_tests = elim e [ shifting ↦ refl | zooming ↦ refl ]
+  by_tests = elim e as (λ (k : Entry). point_call k n factor order prefilter mode i coordinate at weight ≡ point_call_by (first (point_checks k n factor order prefilter mode i (length coordinate) (length at) (length weight))) order mode (elim k [ shifting ↦ shift_axis n factor (pad_of mode prefilter order n) | zooming ↦ zoom_axis n (output_length n factor) (pad_of mode prefilter order n) ]) i coordinate at weight) [ shifting ↦ refl | zooming ↦ refl ]
 
   point_apart : distinct point_tests ≡ true
-  point_apart = elim e [ shifting ↦ refl | zooming ↦ refl ]
+  point_apart = elim e as (λ (k : Entry). distinct (point_checks k n factor order prefilter mode i (length coordinate) (length at) (length weight)) ≡ true) [ shifting ↦ refl | zooming ↦ refl ]
 
   pub point_numbered : point_number ≡ number_by (first point_tests)
   point_numbered = ap (λ (c : PointCall). number_by c.answer) by_tests ∙ by (first point_tests)
@@ -62,7 +63,7 @@ module _ (e : Entry) (n : ℕ) (factor : Float) (order : ℕ) (prefilter : Bool)
   point-success_exactly = success point_tests point_apart point_numbered
 
   pub point-answered : among (0 ∷ 1 ∷ 3 ∷ 4 ∷ 12 ∷ 5 ∷ 7 ∷ 9 ∷ 11 ∷ []) point_number ≡ true
-  point-answered = one_of (1 ∷ 3 ∷ 4 ∷ 12 ∷ 5 ∷ 7 ∷ 9 ∷ 11 ∷ []) point_tests (elim e [ shifting ↦ refl | zooming ↦ refl ]) point_numbered
+  point-answered = one_of (1 ∷ 3 ∷ 4 ∷ 12 ∷ 5 ∷ 7 ∷ 9 ∷ 11 ∷ []) point_tests (elim e as (λ (k : Entry). all_say (λ why. among (1 ∷ 3 ∷ 4 ∷ 12 ∷ 5 ∷ 7 ∷ 9 ∷ 11 ∷ []) (number_of why)) (point_checks k n factor order prefilter mode i (length coordinate) (length at) (length weight)) ≡ true) [ shifting ↦ refl | zooming ↦ refl ]) point_numbered
 
   -- a refusal writes nothing
   pub point_refusal_leaves : (point_number ≡ 0 → ⊥) → pointed ≡ point_call_of pointed.answer coordinate at weight

@@ -103,7 +103,7 @@ module _ (r : Request) where
 -- ---- the promises of `shift` and `zoom`
 module _ (e : Entry) (r : Request) (input output : List Float) (coverage : List ℕ) (work : List Float) where
   twelfth : holds (checks e r input (length output) (length coverage) (length work)) 12 ≡ moves r e
-  twelfth = elim e [ shifting ↦ refl | zooming ↦ refl ]
+  twelfth = elim e as (λ (k : Entry). holds (checks k r input (length output) (length coverage) (length work)) 12 ≡ moves r k) [ shifting ↦ refl | zooming ↦ refl ]
 
   -- 12 exactly where some single slice is changed and refusals 1, 3 and 4 do not apply
   pub twelve_exactly : let tests = checks e r input (length output) (length coverage) (length work) in

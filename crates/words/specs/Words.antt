@@ -1,4 +1,4 @@
--- Words, each as so many bytes with the lowest byte first (little-endian), as the files.npy and .nii hold them.
+-- Words, each as so many bytes with the lowest byte first (little-endian), as the files .npy and .nii hold them.
 use Rattle.std.specs.Prelude.{ℕ, zero, suc, ◌+◌, ◌*◌, ◌/◌, ◌%◌, ◌<◌, List, [], ◌∷◌, ◌++◌, length, get_or, take, drop}
 
 -- the word that these bytes write
