@@ -2,7 +2,7 @@
 ghost use Rattle.std.specs.Prelude.{◌≡◌, ℕ, ◌<◌, ◌≤◌};
 ghost use Rattle.axis.specs.Neighbours.{first_neighbour, outside, spline_mode, neighbour, neighbour_index};
 ghost use Rattle.axis.specs.Bookkeeping.{Indexes};
-ghost use Rattle.axis.specs.Point.{is_kept, point_at, kept_point, neighbours, beside_at, some_beside};
+ghost use Rattle.axis.specs.Point.{is_kept, empty, point_at, kept_point, neighbours, beside_at, some_beside};
 ghost use Rattle.axis.specs.Bookkeeping.{Reached, Kept};
 
 use crate::coordinate::{Axis, float_of, settled_at};
@@ -17,14 +17,6 @@ pub enum Mark {
     Beside,
 }
 
-// Weights and neighbours are all 0 where it reads none.
-#[derive(Clone, Copy)]
-pub struct Point {
-    pub mark: Mark,
-    pub weight: [f64; 6],
-    pub at: [usize; 6],
-}
-
 impl Mark {
     // Whether a record with this mark is one of a kept index.
     pub fn is_kept(self) -> bool
@@ -34,6 +26,14 @@ impl Mark {
     }
 }
 
+// Weights and neighbours are all 0 where it reads none.
+#[derive(Clone, Copy)]
+pub struct Point {
+    pub mark: Mark,
+    pub weight: [f64; 6],
+    pub at: [usize; 6],
+}
+
 // What an output index of an axis reads.
 pub fn point_at(a: Axis, i: usize, order: usize, mode: BorderMode) -> Point
     requires { Reached order a i }
@@ -41,10 +41,17 @@ pub fn point_at(a: Axis, i: usize, order: usize, mode: BorderMode) -> Point
 {
     let to = settled_at(a, i, mode);
     if to > -1.0 {
-        return kept_point(to, a.len, order_on(a.len, order), mode);
+        kept_point(to, a.len, order_on(a.len, order), mode)
+    } else {
+        empty(Mark::Dropped)
     }
+}
+
+fn empty(mark: Mark) -> Point
+    ensures { result ≡ empty mark }
+{
     Point {
-        mark: Mark::Dropped,
+        mark,
         weight: [0.0; 6],
         at: [0; 6],
     }
@@ -56,21 +63,13 @@ fn kept_point(to: f64, len: usize, order: usize, mode: BorderMode) -> Point
 {
     let first = first_neighbour(order, to);
     let out = is_outside(first, len, order);
-    if order == 0 {
-        if out {
-            return Point {
-                mark: Mark::Beside,
-                weight: [0.0; 6],
-                at: [0; 6],
-            };
-        }
+    if order == 0 && out {
+        return empty(Mark::Beside);
     }
-    let weight = build_splines(to, order);
-    let at = neighbours_from(first, out, len, order, mode);
     Point {
         mark: Mark::Reads,
-        weight,
-        at,
+        weight: build_splines(to, order),
+        at: neighbours_from(first, out, len, order, mode),
     }
 }
 
@@ -84,10 +83,7 @@ pub(crate) fn first_neighbour(order: usize, to: f64) -> f64
 fn is_outside(first: f64, len: usize, order: usize) -> bool
     ensures { result ≡ outside order len first }
 {
-    if first < 0.0 {
-        return true;
-    }
-    first + float_of(order) >= float_of(len)
+    first < 0.0 || first + float_of(order) >= float_of(len)
 }
 
 // The mode that folds the neighbours: Constant, Wrap and Replicate have no fold of their own there.
@@ -95,12 +91,9 @@ fn spline_mode(mode: BorderMode) -> BorderMode
     ensures { result ≡ spline_mode mode }
 {
     match mode {
-        BorderMode::Constant(_) => BorderMode::Mirror,
-        BorderMode::Mirror => BorderMode::Mirror,
-        BorderMode::Nearest => BorderMode::Nearest,
+        BorderMode::Constant(_) | BorderMode::Mirror | BorderMode::Wrap => BorderMode::Mirror,
+        BorderMode::Nearest | BorderMode::Replicate => BorderMode::Nearest,
         BorderMode::Reflect => BorderMode::Reflect,
-        BorderMode::Wrap => BorderMode::Mirror,
-        BorderMode::Replicate => BorderMode::Nearest,
     }
 }
 
@@ -109,14 +102,12 @@ fn neighbour_at(first: f64, out: bool, len: usize, mode: BorderMode, k: usize) -
     ensures { result ≡ neighbour_index mode out len first k }
 {
     let x = first + float_of(k);
-    if out {
-        return std::num::truncating_f64_to_u64(map_coordinates(
-            x,
-            float_of(len),
-            spline_mode(mode),
-        )) as usize;
-    }
-    std::num::truncating_f64_to_u64(x) as usize
+    let there = if out {
+        map_coordinates(x, float_of(len), spline_mode(mode))
+    } else {
+        x
+    };
+    std::num::truncating_f64_to_u64(there) as usize
 }
 
 // The neighbours; the other places hold 0.
@@ -127,10 +118,8 @@ fn neighbours_from(first: f64, out: bool, len: usize, order: usize, mode: Border
     ensures { result ≡ neighbours mode order len first }
 {
     let mut at = [0; 6];
-    let mut k = 0;
-    while k <= order {
+    for k in 0..order + 1 {
         at[k] = neighbour_at(first, out, len, mode, k);
-        k += 1;
     }
     at
 }
@@ -140,23 +129,12 @@ fn is_beside(a: Axis, i: usize, mode: BorderMode) -> bool
     ensures { result ≡ beside_at mode a i }
 {
     let to = settled_at(a, i, mode);
-    if to > -1.0 {
-        return is_outside(first_neighbour(0, to), a.len, 0);
-    }
-    false
+    to > -1.0 && is_outside(first_neighbour(0, to), a.len, 0)
 }
 
 // Whether it would at some output index: refusal 9 stands on it.
 pub fn some_beside(a: Axis, mode: BorderMode) -> bool
     ensures { result ≡ some_beside mode a }
 {
-    let n = a.out;
-    let mut i = 0;
-    while i < n {
-        if is_beside(a, i, mode) {
-            return true;
-        }
-        i += 1;
-    }
-    false
+    (0..a.out).any(|i| is_beside(a, i, mode))
 }
