@@ -1,8 +1,7 @@
 -- The record of an output index, by the steps that the code takes; and when its mark is Beside.
-use Rattle.std.proofs.Common.{◌≡◌, ℕ, zero, suc, ◌+◌, ◌<◌, ◌≤◌, Bool, true, false, cond, ◌&&◌, T, eqb, leb, List, length, get_or, set, replicate, sym, refl, ap, ◌∙◌, subst, true≢false, suc-le-suc, zero-le, not-suc-le-zero, arith, length-set, get_or-set_other, eq-eqb, ne_eqb}
+use Rattle.std.proofs.Common.{◌≡◌, ℕ, zero, suc, ◌<◌, ◌≤◌, Bool, true, false, cond, ◌&&◌, T, eqb, leb, List, length, get_or, sym, refl, ap, ◌∙◌, subst, true≢false, suc-le-suc, zero-le, not-suc-le-zero, arith, eq-eqb, ne_eqb}
 use native.Mathlib.Decide.{dec_lt}
 use mathlib.Core.Logic.{dite}
-use lib.ListN.{get_or-replicate, get_or-eq_default}
 use lib.Ieee.{Float, neg, of_int, lt, le}
 use borrow.Author.Tests.{lt-leb}
 use Rattle.limits.specs.Limits.{single}
@@ -13,7 +12,6 @@ use Rattle.exact.proofs.Value.{of_true}
 use Rattle.exact.proofs.Above.{Above}
 use Rattle.lists.specs.Bookkeeping.{Filled}
 use Rattle.lists.proofs.Tabulated.{is_tabulate}
-use Rattle.lists.proofs.Stretches.{store}
 use Rattle.border.specs.declared.BorderMode.{BorderMode}
 use Rattle.border.specs.Fold.{fold}
 use Rattle.axis.specs.declared.coordinate.Axis.{Axis}
@@ -49,16 +47,6 @@ pub record Placed (f : ℕ → ℕ) (at : List ℕ) (k : ℕ) : Type 0 where
   pub six : length at ≡ 6
   pub done : Filled f 0 at k
   pub rest : (j : ℕ) → k ≤ j → get_or at j 0 ≡ 0
-
-pub placed_none : (f : ℕ → ℕ) → Placed f (replicate 6 0) 0
-placed_none f = record { six = refl; done = λ m h. absurd (not-suc-le-zero h); rest = λ j _. dite (dec_lt j 6) (λ l. get_or-replicate 6 j 0 0 l) (λ n. get_or-eq_default (replicate 6 0) 0 {n = j} (omega arith)) }
-
-pub placed_more : (f : ℕ → ℕ) (at : List ℕ) (k v : ℕ) → k < 6 → v ≡ f k → Placed f at k → Placed f (set at k v) (k + 1)
-placed_more f at k v l e p = record {
-  six = length-set at k v ∙ p.six;
-  done = subst (λ (x : ℕ). Filled f 0 (set at k x) (k + 1)) (sym e) (store f 0 at k (omega (arith, p.six)) p.done);
-  rest = λ j h. get_or-set_other at k j v 0 (λ q. omega arith) ∙ p.rest j (omega arith);
-}
 
 pub placed_all : (mode : BorderMode) (order len : ℕ) (first : Float) (at : List ℕ) (k : ℕ) → order < k → Placed (place_of mode (outside order len first) order len first) at k → at ≡ neighbours mode order len first
 unfolding neighbours
