@@ -1,14 +1,15 @@
 -- Whether a neighbour of an output index was folded: by what the code has at hand, in whole numbers, and at orders 0 and 1.
 use Rattle.std.proofs.Common.{◌≡◌, ℕ, ◌+◌, ◌-◌, ◌*◌, ◌<◌, ◌≤◌, Bool, true, false, ◌&&◌, ◌||◌, ltb, leb, List, get_or, ℤ, pos, negsuc, sym, refl, ap, ◌∙◌, subst, true≢false, zero-le, zero-add, arith, lit≤, ltb-false, le-ltb, leb-false}
 use native.Mathlib.Nat.{sub-zero}
-use lib.Ieee.{Float, nan, lt, le, eq}
+use lib.Ieee.{Float, nan, lt, le}
 use borrow.Author.Tests.{lt-leb}
 use Rattle.exact.specs.Rounded.{◌⊕◌, ◌⊖◌, num}
 use Rattle.exact.specs.Whole.{Is}
 use Rattle.exact.specs.Floor.{floor_f}
 use Rattle.exact.proofs.Is.{lt_is, le_is}
 use Rattle.exact.proofs.Naturals.{num_is, plus, minus}
-use Rattle.lists.proofs.Somes.{some_none, some_at, none-at, some_found, or_false}
+use Rattle.lists.specs.Some.{some_below}
+use Rattle.lists.proofs.Somes.{some_none, none-at, some_found, or_false}
 use Rattle.border.specs.declared.BorderMode.{BorderMode}
 use Rattle.axis.specs.declared.coordinate.Axis.{Axis}
 use Rattle.axis.specs.Coordinate.{settled, kept}
@@ -22,13 +23,13 @@ use Rattle.axis.proofs.Points.{above_kept, long_order, reached_kept}
 
 -- ---- one neighbour
 module _ (a : Axis) (x w : Float) where
-  pub weightless : eq w (num 0) ≡ true → false ≡ (weighs w && beyond a x)
+  pub weightless : weighs w ≡ false → false ≡ (weighs w && beyond a x)
   weightless e = simp e
 
-  pub before_axis : eq w (num 0) ≡ false → lt x a.pad ≡ true → true ≡ (weighs w && beyond a x)
+  pub before_axis : weighs w ≡ true → lt x a.pad ≡ true → true ≡ (weighs w && beyond a x)
   before_axis e b = simp (e, b)
 
-  pub behind_axis : eq w (num 0) ≡ false → lt x a.pad ≡ false → {l : Float} → l ≡ num a.len → le (l ⊖ a.pad) x ≡ (weighs w && beyond a x)
+  pub behind_axis : weighs w ≡ true → lt x a.pad ≡ false → {l : Float} → l ≡ num a.len → le (l ⊖ a.pad) x ≡ (weighs w && beyond a x)
   behind_axis e b {l} n = ap (λ (y : Float). le (y ⊖ a.pad) x) n ∙ simp (e, b)
 
 -- ---- all of them
@@ -37,11 +38,8 @@ module _ (order : ℕ) (mode : BorderMode) (a : Axis) (i : ℕ) {to first : Floa
   unfolding weight_at unfolded_at
   by_hand k = λ j. weighs (get_or ((w ∙ ap (build_splines order) t) j) k nan) && beyond a ((f ∙ ap (first_neighbour order) t) j ⊕ num k)
 
-  pub folded-by : (k : ℕ) → k ≤ order → (weighs (get_or weight k nan) && beyond a (first ⊕ num k)) ≡ true → true ≡ some_folded order mode a i
-  folded-by k l e = sym (some_at (folded_by order mode a i) (order + 1) k (omega arith) (sym (by_hand k) ∙ e))
-
-  pub none_folded : (n : ℕ) → order < n → ((k : ℕ) → k < n → (weighs (get_or weight k nan) && beyond a (first ⊕ num k)) ≡ false) → false ≡ some_folded order mode a i
-  none_folded n l h = sym (some_none (folded_by order mode a i) (order + 1) (λ k m. sym (by_hand k) ∙ h k (omega arith)))
+  pub some_by_hand : some_below (λ k. weighs (get_or weight k nan) && beyond a (first ⊕ num k)) (order + 1) ≡ some_folded order mode a i
+  some_by_hand = λ j. some_below (λ k. by_hand k j) (order + 1)
 
 -- ---- a neighbour as a whole number
 -- an axis of `length` voxels, with a pad on both sides

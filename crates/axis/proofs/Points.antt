@@ -1,8 +1,7 @@
--- The record of an output index, by the steps that the code takes; and when its mark is 2.
-use Rattle.std.proofs.Common.{◌≡◌, ℕ, zero, suc, ◌+◌, ◌<◌, ◌≤◌, Bool, true, false, cond, ◌&&◌, T, eqb, leb, List, length, get_or, set, replicate, sym, refl, ap, ◌∙◌, subst, true≢false, suc-le-suc, zero-le, not-suc-le-zero, arith, length-set, get_or-set_other, eq-eqb, ne_eqb}
+-- The record of an output index, by the steps that the code takes; and when its mark is Beside.
+use Rattle.std.proofs.Common.{◌≡◌, ℕ, zero, suc, ◌<◌, ◌≤◌, Bool, true, false, cond, ◌&&◌, T, eqb, leb, List, length, get_or, sym, refl, ap, ◌∙◌, subst, true≢false, suc-le-suc, zero-le, not-suc-le-zero, arith, eq-eqb, ne_eqb}
 use native.Mathlib.Decide.{dec_lt}
 use mathlib.Core.Logic.{dite}
-use lib.ListN.{get_or-replicate, get_or-eq_default}
 use lib.Ieee.{Float, neg, of_int, lt, le}
 use borrow.Author.Tests.{lt-leb}
 use Rattle.limits.specs.Limits.{single}
@@ -13,7 +12,6 @@ use Rattle.exact.proofs.Value.{of_true}
 use Rattle.exact.proofs.Above.{Above}
 use Rattle.lists.specs.Bookkeeping.{Filled}
 use Rattle.lists.proofs.Tabulated.{is_tabulate}
-use Rattle.lists.proofs.Stretches.{store}
 use Rattle.border.specs.declared.BorderMode.{BorderMode}
 use Rattle.border.specs.Fold.{fold}
 use Rattle.axis.specs.declared.coordinate.Axis.{Axis}
@@ -21,8 +19,9 @@ use Rattle.axis.specs.Coordinate.{settled, kept}
 use Rattle.axis.specs.Weights.{order_on, build_splines}
 use Rattle.axis.specs.Neighbours.{first_neighbour, outside, spline_mode, neighbour, neighbour_index}
 use Rattle.axis.specs.Bookkeeping.{Indexes}
+use Rattle.axis.specs.declared.point.Mark.TheVariants.{Reads, Dropped, Beside}
 use Rattle.axis.specs.declared.point.Point.{Point}
-use Rattle.axis.specs.Point.{is_kept_mark, empty, neighbours, kept_point, point_at, beside_at}
+use Rattle.axis.specs.Point.{is_kept, empty, neighbours, kept_point, point_at, beside_at}
 use Rattle.axis.specs.Bookkeeping.{Reached, Kept}
 use Rattle.axis.proofs.Reaches.{settled_within}
 use Rattle.axis.proofs.Inside.{index_asks}
@@ -48,16 +47,6 @@ pub record Placed (f : ℕ → ℕ) (at : List ℕ) (k : ℕ) : Type 0 where
   pub six : length at ≡ 6
   pub done : Filled f 0 at k
   pub rest : (j : ℕ) → k ≤ j → get_or at j 0 ≡ 0
-
-pub placed_none : (f : ℕ → ℕ) → Placed f (replicate 6 0) 0
-placed_none f = record { six = refl; done = λ m h. absurd (not-suc-le-zero h); rest = λ j _. dite (dec_lt j 6) (λ l. get_or-replicate 6 j 0 0 l) (λ n. get_or-eq_default (replicate 6 0) 0 {n = j} (omega arith)) }
-
-pub placed_more : (f : ℕ → ℕ) (at : List ℕ) (k v : ℕ) → k < 6 → v ≡ f k → Placed f at k → Placed f (set at k v) (k + 1)
-placed_more f at k v l e p = record {
-  six = length-set at k v ∙ p.six;
-  done = subst (λ (x : ℕ). Filled f 0 (set at k x) (k + 1)) (sym e) (store f 0 at k (omega (arith, p.six)) p.done);
-  rest = λ j h. get_or-set_other at k j v 0 (λ q. omega arith) ∙ p.rest j (omega arith);
-}
 
 pub placed_all : (mode : BorderMode) (order len : ℕ) (first : Float) (at : List ℕ) (k : ℕ) → order < k → Placed (place_of mode (outside order len first) order len first) at k → at ≡ neighbours mode order len first
 unfolding neighbours
@@ -91,11 +80,11 @@ kept_two {order} {len} {to} p t o = p.two (some order (ap (λ (b : Bool). eqb or
     some (suc n) e = suc-le-suc zero-le
 
 module _ (order : ℕ) (mode : BorderMode) (len : ℕ) (to : Float) {first : Float} (e : first ≡ first_neighbour order to) where
-  pub kept-outside : order ≡ 0 → outside order len first ≡ true → empty 2 ≡ kept_point order mode len to
+  pub kept-outside : order ≡ 0 → outside order len first ≡ true → empty Beside ≡ kept_point order mode len to
   unfolding kept_point
   kept-outside o t = simp (eq-eqb order 0 o, subst (λ (x : Float). outside order len x ≡ true) e t)
 
-  pub kept_inside : (eqb order 0 && outside order len first) ≡ false → {w : List Float} {n : List ℕ} → w ≡ build_splines order to → n ≡ neighbours mode order len first → record { mark = 0; weight = w; at = n } ≡ kept_point order mode len to
+  pub kept_inside : (eqb order 0 && outside order len first) ≡ false → {w : List Float} {n : List ℕ} → w ≡ build_splines order to → n ≡ neighbours mode order len first → record { mark = Reads; weight = w; at = n } ≡ kept_point order mode len to
   unfolding kept_point
   kept_inside t {w} {n} p q =
       let whole : n ≡ neighbours mode order len (first_neighbour order to) = q ∙ ap (λ (x : Float). neighbours mode order len x) e in
@@ -146,19 +135,19 @@ module _ (order : ℕ) (mode : BorderMode) (a : Axis) (i : ℕ) {to : Float} (e 
   unfolding point_at
   point-kept n t = (λ j. kept_point (n j) mode a.len (e j)) ∙ simp (ap (λ (x : Float). kept x) (sym e) ∙ t)
 
-  pub point_dropped : kept to ≡ false → empty 1 ≡ point_at order mode a i
+  pub point_dropped : kept to ≡ false → empty Dropped ≡ point_at order mode a i
   unfolding point_at
   point_dropped t = simp (ap (λ (x : Float). kept x) (sym e) ∙ t)
 
   -- the mark says whether it is kept
-  pub kept_by_mark : {t : Point} → t ≡ point_at order mode a i → is_kept_mark t.mark ≡ kept (settled mode a i)
+  pub kept_by_mark : {t : Point} → t ≡ point_at order mode a i → is_kept t.mark ≡ kept (settled mode a i)
   unfolding point_at kept_point
-  kept_by_mark {t} e = ap (λ (p : Point). is_kept_mark p.mark) e ∙ go (kept (settled mode a i)) (eqb o 0 && outside o a.len (first_neighbour o (settled mode a i))) _ _
+  kept_by_mark {t} e = ap (λ (p : Point). is_kept p.mark) e ∙ go (kept (settled mode a i)) (eqb o 0 && outside o a.len (first_neighbour o (settled mode a i))) _ _
     where
       o : ℕ
       o = order_on a.len order
 
-      go : (k o : Bool) (w : List Float) (n : List ℕ) → is_kept_mark (cond k (cond o (empty 2) (record { mark = 0; weight = w; at = n })) (empty 1)).mark ≡ k
+      go : (k o : Bool) (w : List Float) (n : List ℕ) → is_kept (cond k (cond o (empty Beside) (record { mark = Reads; weight = w; at = n })) (empty Dropped)).mark ≡ k
       go true true w n = refl
       go true false w n = refl
       go false o w n = refl

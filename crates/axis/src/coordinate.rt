@@ -30,26 +30,14 @@ pub fn float_of(n: usize) -> f64
 fn pads(mode: BorderMode) -> bool
     ensures { result ≡ pads mode }
 {
-    match mode {
-        BorderMode::Constant(_) => false,
-        BorderMode::Mirror => false,
-        BorderMode::Nearest => true,
-        BorderMode::Reflect => false,
-        BorderMode::Wrap => false,
-        BorderMode::Replicate => true,
-    }
+    matches!(mode, BorderMode::Nearest | BorderMode::Replicate)
 }
 
 // Whether a request has edge copies.
 pub fn has_pad(mode: BorderMode, prefilter: bool, order: usize) -> bool
     ensures { result ≡ has_pad mode prefilter order }
 {
-    if prefilter {
-        if order > 1 {
-            return pads(mode);
-        }
-    }
-    false
+    prefilter && order > 1 && pads(mode)
 }
 
 // How many stand on each side of an axis.
@@ -82,9 +70,10 @@ fn zoom_ratio(length: usize, out: usize) -> f64
     ensures { result ≡ (zoom_axis length out 0).ratio }
 {
     if is_single(length) {
-        return 1.0;
+        1.0
+    } else {
+        float_of(length - 1) / float_of(out - 1)
     }
-    float_of(length - 1) / float_of(out - 1)
 }
 
 pub fn zoom_axis(length: usize, out: usize, pad: usize) -> Axis
@@ -112,11 +101,10 @@ fn folds(mode: BorderMode) -> When
     ensures { result ≡ folds mode }
 {
     match mode {
-        BorderMode::Constant(_) => When::WithPad,
-        BorderMode::Mirror => When::WithPad,
         BorderMode::Nearest => When::Never,
-        BorderMode::Reflect => When::WithPad,
-        BorderMode::Wrap => When::WithPad,
+        BorderMode::Constant(_) | BorderMode::Mirror | BorderMode::Reflect | BorderMode::Wrap => {
+            When::WithPad
+        }
         BorderMode::Replicate => When::BeforePad,
     }
 }
@@ -126,9 +114,10 @@ fn folds_on(len: usize, mode: BorderMode) -> When
     ensures { result ≡ folds_on len mode }
 {
     if is_single(len) {
-        return When::Never;
+        When::Never
+    } else {
+        folds(mode)
     }
-    folds(mode)
 }
 
 // The coordinate of an output index, settled by the mode.
@@ -136,8 +125,7 @@ pub fn settled_at(a: Axis, i: usize, mode: BorderMode) -> f64
     ensures { result ≡ settled mode a i }
 {
     let unpadded = (float_of(i) + a.shift) * a.ratio;
-    let when = folds_on(a.len, mode);
-    match when {
+    match folds_on(a.len, mode) {
         When::Never => unpadded + a.pad,
         When::WithPad => map_coordinates(unpadded + a.pad, float_of(a.len), mode),
         When::BeforePad => {

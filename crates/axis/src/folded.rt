@@ -12,13 +12,7 @@ use border::BorderMode;
 fn weighs_beyond(a: Axis, x: f64, w: f64) -> bool
     ensures { result ≡ weighs w && beyond a x }
 {
-    if w == 0.0 {
-        return false;
-    }
-    if x < a.pad {
-        return true;
-    }
-    x >= float_of(a.len) - a.pad
+    w != 0.0 && (x < a.pad || x >= float_of(a.len) - a.pad)
 }
 
 // Whether some neighbour of output index i does, at the order that the axis is read at.
@@ -29,14 +23,7 @@ fn some_folded(a: Axis, i: usize, order: usize, mode: BorderMode) -> bool
     let to = settled_at(a, i, mode);
     let weight = build_splines(to, order);
     let first = first_neighbour(order, to);
-    let mut k = 0;
-    while k <= order {
-        if weighs_beyond(a, first + float_of(k), weight[k]) {
-            return true;
-        }
-        k += 1;
-    }
-    false
+    (0..order + 1).any(|k| weighs_beyond(a, first + float_of(k), weight[k]))
 }
 
 pub fn is_folded(a: Axis, i: usize, order: usize, mode: BorderMode) -> bool

@@ -2,26 +2,36 @@
 ghost use Rattle.std.specs.Prelude.{◌≡◌, ℕ, ◌<◌, ◌≤◌};
 ghost use Rattle.axis.specs.Neighbours.{first_neighbour, outside, spline_mode, neighbour, neighbour_index};
 ghost use Rattle.axis.specs.Bookkeeping.{Indexes};
-ghost use Rattle.axis.specs.Point.{is_kept_mark, point_at, kept_point, neighbours, beside_at, some_beside};
+ghost use Rattle.axis.specs.Point.{is_kept, empty, point_at, kept_point, neighbours, beside_at, some_beside};
 ghost use Rattle.axis.specs.Bookkeeping.{Reached, Kept};
 
 use crate::coordinate::{Axis, float_of, settled_at};
 use crate::splines::{base_of, build_splines, order_on};
 use border::{BorderMode, map_coordinates};
 
-// Mark 0: kept, with weights and neighbours. 1: dropped. 2: kept at order 0, but outside.
+// What a record does: it reads its neighbours, its index is dropped, or kept at order 0 but outside.
 #[derive(Clone, Copy)]
-pub struct Point {
-    pub mark: u8,
-    pub weight: [f64; 6],
-    pub at: [usize; 6],
+pub enum Mark {
+    Reads,
+    Dropped,
+    Beside,
 }
 
-// Whether a record with this mark is one of a kept index.
-pub fn is_kept_mark(mark: u8) -> bool
-    ensures { result ≡ is_kept_mark mark }
-{
-    mark != 1
+impl Mark {
+    // Whether a record with this mark is one of a kept index.
+    pub fn is_kept(self) -> bool
+        ensures { result ≡ is_kept self }
+    {
+        !matches!(self, Mark::Dropped)
+    }
+}
+
+// Weights and neighbours are all 0 where it reads none.
+#[derive(Clone, Copy)]
+pub struct Point {
+    pub mark: Mark,
+    pub weight: [f64; 6],
+    pub at: [usize; 6],
 }
 
 // What an output index of an axis reads.
@@ -31,10 +41,17 @@ pub fn point_at(a: Axis, i: usize, order: usize, mode: BorderMode) -> Point
 {
     let to = settled_at(a, i, mode);
     if to > -1.0 {
-        return kept_point(to, a.len, order_on(a.len, order), mode);
+        kept_point(to, a.len, order_on(a.len, order), mode)
+    } else {
+        empty(Mark::Dropped)
     }
+}
+
+fn empty(mark: Mark) -> Point
+    ensures { result ≡ empty mark }
+{
     Point {
-        mark: 1,
+        mark,
         weight: [0.0; 6],
         at: [0; 6],
     }
@@ -46,21 +63,13 @@ fn kept_point(to: f64, len: usize, order: usize, mode: BorderMode) -> Point
 {
     let first = first_neighbour(order, to);
     let out = is_outside(first, len, order);
-    if order == 0 {
-        if out {
-            return Point {
-                mark: 2,
-                weight: [0.0; 6],
-                at: [0; 6],
-            };
-        }
+    if order == 0 && out {
+        return empty(Mark::Beside);
     }
-    let weight = build_splines(to, order);
-    let at = neighbours_from(first, out, len, order, mode);
     Point {
-        mark: 0,
-        weight,
-        at,
+        mark: Mark::Reads,
+        weight: build_splines(to, order),
+        at: neighbours_from(first, out, len, order, mode),
     }
 }
 
@@ -74,10 +83,7 @@ pub(crate) fn first_neighbour(order: usize, to: f64) -> f64
 fn is_outside(first: f64, len: usize, order: usize) -> bool
     ensures { result ≡ outside order len first }
 {
-    if first < 0.0 {
-        return true;
-    }
-    first + float_of(order) >= float_of(len)
+    first < 0.0 || first + float_of(order) >= float_of(len)
 }
 
 // The mode that folds the neighbours: Constant, Wrap and Replicate have no fold of their own there.
@@ -85,12 +91,9 @@ fn spline_mode(mode: BorderMode) -> BorderMode
     ensures { result ≡ spline_mode mode }
 {
     match mode {
-        BorderMode::Constant(_) => BorderMode::Mirror,
-        BorderMode::Mirror => BorderMode::Mirror,
-        BorderMode::Nearest => BorderMode::Nearest,
+        BorderMode::Constant(_) | BorderMode::Mirror | BorderMode::Wrap => BorderMode::Mirror,
+        BorderMode::Nearest | BorderMode::Replicate => BorderMode::Nearest,
         BorderMode::Reflect => BorderMode::Reflect,
-        BorderMode::Wrap => BorderMode::Mirror,
-        BorderMode::Replicate => BorderMode::Nearest,
     }
 }
 
@@ -99,14 +102,12 @@ fn neighbour_at(first: f64, out: bool, len: usize, mode: BorderMode, k: usize) -
     ensures { result ≡ neighbour_index mode out len first k }
 {
     let x = first + float_of(k);
-    if out {
-        return std::num::truncating_f64_to_u64(map_coordinates(
-            x,
-            float_of(len),
-            spline_mode(mode),
-        )) as usize;
-    }
-    std::num::truncating_f64_to_u64(x) as usize
+    let there = if out {
+        map_coordinates(x, float_of(len), spline_mode(mode))
+    } else {
+        x
+    };
+    std::num::truncating_f64_to_u64(there) as usize
 }
 
 // The neighbours; the other places hold 0.
@@ -117,10 +118,8 @@ fn neighbours_from(first: f64, out: bool, len: usize, order: usize, mode: Border
     ensures { result ≡ neighbours mode order len first }
 {
     let mut at = [0; 6];
-    let mut k = 0;
-    while k <= order {
+    for k in 0..order + 1 {
         at[k] = neighbour_at(first, out, len, mode, k);
-        k += 1;
     }
     at
 }
@@ -130,23 +129,12 @@ fn is_beside(a: Axis, i: usize, mode: BorderMode) -> bool
     ensures { result ≡ beside_at mode a i }
 {
     let to = settled_at(a, i, mode);
-    if to > -1.0 {
-        return is_outside(first_neighbour(0, to), a.len, 0);
-    }
-    false
+    to > -1.0 && is_outside(first_neighbour(0, to), a.len, 0)
 }
 
 // Whether it would at some output index: refusal 9 stands on it.
 pub fn some_beside(a: Axis, mode: BorderMode) -> bool
     ensures { result ≡ some_beside mode a }
 {
-    let n = a.out;
-    let mut i = 0;
-    while i < n {
-        if is_beside(a, i, mode) {
-            return true;
-        }
-        i += 1;
-    }
-    false
+    (0..a.out).any(|i| is_beside(a, i, mode))
 }

@@ -16,9 +16,10 @@ pub fn base_of(order: usize, to: f64) -> f64
     ensures { result ≡ base order to }
 {
     if order % 2 == 1 {
-        return exact::floor(to);
+        exact::floor(to)
+    } else {
+        exact::floor(to + 0.5)
     }
-    exact::floor(to + 0.5)
 }
 
 // The order + 1 weights at a coordinate, and 0.0 in the other places.
@@ -28,7 +29,7 @@ pub fn build_splines(to: f64, order: usize) -> [f64; 6]
 {
     let x = to - base_of(order, to);
     match order {
-        0 => [1.0 - 0.0, 0.0, 0.0, 0.0, 0.0, 0.0],
+        0 => [1.0, 0.0, 0.0, 0.0, 0.0, 0.0],
         1 => linear(x),
         2 => quadratic(x),
         3 => cubic(x),

@@ -1,4 +1,4 @@
--- The ways through the arms of the fold, by the outcomes of the tests on them. `f` is what `floor` gave, and `b` the outcome of the last test.
+-- The ways through the arms of the fold, by the outcomes of the tests on them: `b` is the outcome of the last.
 use mathlib.Core.Path.{◌≡◌, sym, subst}
 use mathlib.Core.Bool.{Bool, true, false, cond}
 use lib.Ieee.{Float, neg, lt, le}
@@ -6,7 +6,7 @@ use Rattle.exact.specs.Rounded.{◌⊕◌, ◌⊖◌, ◌⊗◌, ◌⊘◌, num}
 use Rattle.exact.specs.Floor.{floor_f}
 use Rattle.border.specs.declared.BorderMode.{BorderMode}
 use Rattle.border.specs.declared.BorderMode.TheVariants.{Constant, Mirror, Nearest, Reflect, Wrap, Replicate}
-use Rattle.border.specs.Fold.{over, mirror_period, reflect_period, reflect_under, fold, fold_constant, fold_mirror, fold_nearest, fold_reflect, fold_wrap, fold_replicate}
+use Rattle.border.specs.Fold.{under, over, mirror_period, reflect_period, reflect_under, fold, fold_constant, fold_mirror, fold_nearest, fold_reflect, fold_wrap, fold_replicate}
 
 -- `under` and `over` with the floor at hand
 abbrev pub under_by : Float → Float → Float → Float
@@ -67,29 +67,26 @@ module _ (idx len : Float) where
   unfolding fold_wrap
   wrap_beyond p q = simp (p, q)
 
-module _ (idx len f : Float) where
-  pub mirror_under : f ≡ floor_f (neg idx ⊘ mirror_period len) → lt idx (num 0) ≡ true → (b : Bool) → le (under_by (mirror_period len) idx f) (num 1 ⊖ len) ≡ b →
-      cond b (under_by (mirror_period len) idx f ⊕ mirror_period len) (neg (under_by (mirror_period len) idx f)) ≡ fold_mirror idx len
+-- `t` is the coordinate as it stands after the first step
+module _ (idx len t : Float) where
+  pub mirror_under : t ≡ under (mirror_period len) idx → lt idx (num 0) ≡ true → (b : Bool) → le t (num 1 ⊖ len) ≡ b → cond b (t ⊕ mirror_period len) (neg t) ≡ fold_mirror idx len
   unfolding fold_mirror
   mirror_under e p b q = simp (sym e, p, q)
 
-  pub mirror_over : f ≡ floor_f (idx ⊘ mirror_period len) → lt idx (num 0) ≡ false → le len idx ≡ true → (b : Bool) → le len (over_by (mirror_period len) idx f) ≡ b →
-      cond b (mirror_period len ⊖ over_by (mirror_period len) idx f) (over_by (mirror_period len) idx f) ≡ fold_mirror idx len
+  pub mirror_over : t ≡ over (mirror_period len) idx → lt idx (num 0) ≡ false → le len idx ≡ true → (b : Bool) → le len t ≡ b → cond b (mirror_period len ⊖ t) t ≡ fold_mirror idx len
   unfolding fold_mirror
   mirror_over e p r b q = simp (sym e, p, r, q)
 
-  pub reflect_over : f ≡ floor_f (idx ⊘ reflect_period len) → lt idx (num 0) ≡ false → le len idx ≡ true → (b : Bool) → le len (over_by (reflect_period len) idx f) ≡ b →
-      cond b (reflect_period len ⊖ over_by (reflect_period len) idx f ⊖ num 1) (over_by (reflect_period len) idx f) ≡ fold_reflect idx len
+  pub reflect_over : t ≡ over (reflect_period len) idx → lt idx (num 0) ≡ false → le len idx ≡ true → (b : Bool) → le len t ≡ b → cond b (reflect_period len ⊖ t ⊖ num 1) t ≡ fold_reflect idx len
   unfolding fold_reflect
   reflect_over e p r b q = simp (sym e, p, r, q)
 
-  pub reflect_far : f ≡ floor_f (neg idx ⊘ reflect_period len) → lt idx (neg (reflect_period len)) ≡ true → under_by (reflect_period len) idx f ≡ reflect_under idx len
+  pub reflect_far : t ≡ under (reflect_period len) idx → lt idx (neg (reflect_period len)) ≡ true → t ≡ reflect_under idx len
   reflect_far e p = simp (sym e, p)
 
   pub reflect_near : lt idx (neg (reflect_period len)) ≡ false → idx ≡ reflect_under idx len
   reflect_near p = simp p
 
-  -- here `f` is the coordinate as it stands after the first step
-  pub reflect-under : f ≡ reflect_under idx len → lt idx (num 0) ≡ true → (b : Bool) → lt f (neg len) ≡ b → cond b (f ⊕ reflect_period len) (neg f ⊖ num 1) ≡ fold_reflect idx len
+  pub reflect-under : t ≡ reflect_under idx len → lt idx (num 0) ≡ true → (b : Bool) → lt t (neg len) ≡ b → cond b (t ⊕ reflect_period len) (neg t ⊖ num 1) ≡ fold_reflect idx len
   unfolding fold_reflect
-  reflect-under e p b q = simp (p) (subst (λ (t : Float). cond b (f ⊕ reflect_period len) (neg f ⊖ num 1) ≡ cond (lt t (neg len)) (t ⊕ reflect_period len) (neg t ⊖ num 1)) e (simp q))
+  reflect-under e p b q = simp (p) (subst (λ (x : Float). cond b (t ⊕ reflect_period len) (neg t ⊖ num 1) ≡ cond (lt x (neg len)) (x ⊕ reflect_period len) (neg x ⊖ num 1)) e (simp q))

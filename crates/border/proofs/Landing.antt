@@ -65,7 +65,7 @@ module _ (idx len : Float) (L : ℕ) (least : 2 ≤ L) (most : L ≤ 4120) (is :
       let r = a % p in
       let rest : Is (over (mirror_period len) idx) (pos r) = over_is a p m (omega arith) (omega arith) mirror-period h in
       let small : r < p = mod-lt a (omega arith) in
-      let by = arms.mirror_over idx len (floor_f (idx ⊘ mirror_period len)) refl (not_below h) (at_length h l) in
+      let by = arms.mirror_over idx len (over (mirror_period len) idx) refl (not_below h) (at_length h l) in
       elim (sides r L) [
         | inl k ↦ on_voxel Mirror L (pos a) r k (inl (up_own p a r (a / p) (parts a p))) rest (by false (le_is is rest ∙ lt-leb L r k))
         | inr k ↦ on_voxel Mirror L (pos a) (p - r) (omega arith) (inr (up_image p a (p - r) (suc (a / p)) (next_multiple a r p (a / p) (parts a p) (le_of_lt small))))
@@ -79,7 +79,7 @@ module _ (idx len : Float) (L : ℕ) (least : 2 ≤ L) (most : L ≤ 4120) (is :
       let rest : Is (under (mirror_period len) idx) (neg_ℤ (pos r)) = under_is a p m (omega arith) (omega arith) mirror-period h in
       let small : r < p = mod-lt a (omega arith) in
       let test = le_negatives r (L - 1) rest (minus_more (num_is 1 (lit≤ tt)) is (omega arith) (omega arith)) in
-      let by = arms.mirror_under idx len (floor_f (neg idx ⊘ mirror_period len)) refl t in
+      let by = arms.mirror_under idx len (under (mirror_period len) idx) refl t in
       elim (sides r (L - 1)) [
         | inl k ↦ on_voxel Mirror L (neg_ℤ (pos a)) r (omega arith) (inr (down_image p a r (a / p) (parts a p))) (negated rest) (by false (test ∙ lt-leb (L - 1) r k))
         | inr k ↦ on_voxel Mirror L (neg_ℤ (pos a)) (p - r) (omega arith) (inl (down_own p a (p - r) (suc (a / p)) (next_multiple a r p (a / p) (parts a p) (le_of_lt small))))
@@ -96,7 +96,7 @@ module _ (idx len : Float) (L : ℕ) (least : 2 ≤ L) (most : L ≤ 4120) (is :
       let r = a % p in
       let rest : Is (over (reflect_period len) idx) (pos r) = over_is a p m (omega arith) (omega arith) reflect-period h in
       let small : r < p = mod-lt a (omega arith) in
-      let by = arms.reflect_over idx len (floor_f (idx ⊘ reflect_period len)) refl (not_below h) (at_length h l) in
+      let by = arms.reflect_over idx len (over (reflect_period len) idx) refl (not_below h) (at_length h l) in
       elim (sides r L) [
         | inl k ↦ on_voxel Reflect L (pos a) r k (inl (up_own p a r (a / p) (parts a p))) rest (by false (le_is is rest ∙ lt-leb L r k))
         | inr k ↦
@@ -123,7 +123,7 @@ module _ (idx len : Float) (L : ℕ) (least : 2 ≤ L) (most : L ≤ 4120) (is :
         | inl k ↦ record {
           u = a % p;
           q = a / p;
-          step = subst (λ (x : Float). Is x (neg_ℤ (pos (a % p)))) (arms.reflect_far idx len (floor_f (neg idx ⊘ reflect_period len)) refl (test ∙ lt-ltb p a k)) (under_is a p m (omega arith) (omega arith) reflect-period h);
+          step = subst (λ (x : Float). Is x (neg_ℤ (pos (a % p)))) (arms.reflect_far idx len (under (reflect_period len) idx) refl (test ∙ lt-ltb p a k)) (under_is a p m (omega arith) (omega arith) reflect-period h);
           upto = le_of_lt (mod-lt a (omega arith));
           split = parts a p;
           zero_far = λ z. twice p a (a / p) k (parts a p ∙ ap (λ (j : ℕ). j + p * (a / p)) z);

@@ -118,7 +118,7 @@ module _ (L : ℕ) (least : 2 ≤ L) (most : L ≤ 4120) (g : ℕ) where
         left_is = sum_over some whole_turns h
 
         far : cond (lt left (neg (num L))) (left ⊕ reflect_period (num L)) (neg left ⊖ num 1) ≡ fold_reflect idx (num L)
-        far = last_step idx (arms.reflect_far idx (num L) (num turns) (sym (floor_over g (neg-over h) short period (omega arith) room)) (past ∙ lt-ltb (2 * L * 2 ^ g) u l)) below
+        far = last_step idx (arms.reflect_far idx (num L) left (ap (under_by (reflect_period (num L)) idx) (sym (floor_over g (neg-over h) short period (omega arith) room))) (past ∙ lt-ltb (2 * L * 2 ^ g) u l)) below
 
         fine : 2 * 2 ^ g ≤ u
         fine = omega (arith, twice, mul_assoc 2 L (2 ^ g))
@@ -154,7 +154,7 @@ module _ (L : ℕ) (least : 2 ≤ L) (most : L ≤ 4120) (g : ℕ) where
             let G = 2 ^ g in
             let q = 2 * L * turns * G in
             let r = u - q in
-            let by = arms.reflect_over idx (num L) (num turns) (sym (floor_over g h short period (omega arith) room)) not_below (beyond ∙ le-leb (L * G) u l) in
+            let by = arms.reflect_over idx (num L) over_left (ap (over_by (reflect_period (num L)) idx) (sym (floor_over g h short period (omega arith) room))) not_below (beyond ∙ le-leb (L * G) u l) in
             let test : le (num L) over_left ≡ leb (L * G) r = le-over some len_over over_is ∙ leb_is (L * G) r in
             dite (dec_lt r (L * G))
             (λ k. ap (λ (x : Float). le x minus1) (sym (by false (test ∙ lt-leb (L * G) r k))) ∙ not_negative over_left (over_sign over_is))

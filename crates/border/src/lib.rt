@@ -4,7 +4,7 @@
 #![tactic(auto)]
 
 ghost use Rattle.std.specs.Prelude.{◌≡◌};
-ghost use Rattle.border.specs.Fold.{fold, fold_constant, fold_mirror, fold_nearest, fold_reflect, fold_wrap, fold_replicate};
+ghost use Rattle.border.specs.Fold.{under, over, fold, fold_constant, fold_mirror, fold_nearest, fold_reflect, fold_wrap, fold_replicate};
 
 // How the volume goes on beyond its border. Only Constant carries a fill. Nearest is the Rust's, and drops
 // a coordinate at or below -1; Replicate is what the SciPy manual calls nearest.
@@ -32,17 +32,25 @@ pub fn map_coordinates(idx: f64, len: f64, mode: BorderMode) -> f64
     }
 }
 
+// What is left of a coordinate once whole periods are taken from its size: of one below 0, and of one
+// beyond the far end.
+fn under(period: f64, idx: f64) -> f64
+    ensures { result ≡ under period idx }
+{
+    period * exact::floor(-idx / period) + idx
+}
+
+fn over(period: f64, idx: f64) -> f64
+    ensures { result ≡ over period idx }
+{
+    idx - period * exact::floor(idx / period)
+}
+
 // Outside becomes -1, the mark for outside.
 fn fold_constant(idx: f64, len: f64) -> f64
     ensures { result ≡ fold_constant idx len }
 {
-    if idx < 0.0 {
-        return -1.0;
-    }
-    if idx >= len {
-        return -1.0;
-    }
-    idx
+    if idx < 0.0 || idx >= len { -1.0 } else { idx }
 }
 
 // Outside becomes the end that is nearer.
@@ -50,26 +58,26 @@ fn fold_nearest(idx: f64, len: f64) -> f64
     ensures { result ≡ fold_nearest idx len }
 {
     if idx < 0.0 {
-        return 0.0;
+        0.0
+    } else if idx >= len {
+        len - 1.0
+    } else {
+        idx
     }
-    if idx >= len {
-        return len - 1.0;
-    }
-    idx
 }
 
 // Clamped to the first and the last voxel.
 fn fold_replicate(idx: f64, len: f64) -> f64
     ensures { result ≡ fold_replicate idx len }
 {
-    if idx < 0.0 {
-        return 0.0;
-    }
     let last = len - 1.0;
-    if idx > last {
-        return last;
+    if idx < 0.0 {
+        0.0
+    } else if idx > last {
+        last
+    } else {
+        idx
     }
-    idx
 }
 
 // Reflected about the centres of the end voxels.
@@ -78,20 +86,14 @@ fn fold_mirror(idx: f64, len: f64) -> f64
 {
     let s2 = 2.0 * len - 2.0;
     if idx < 0.0 {
-        let t = s2 * exact::floor(-idx / s2) + idx;
-        if t <= 1.0 - len {
-            return t + s2;
-        }
-        return -t;
+        let t = under(s2, idx);
+        if t <= 1.0 - len { t + s2 } else { -t }
+    } else if idx >= len {
+        let t = over(s2, idx);
+        if t >= len { s2 - t } else { t }
+    } else {
+        idx
     }
-    if idx >= len {
-        let t = idx - s2 * exact::floor(idx / s2);
-        if t >= len {
-            return s2 - t;
-        }
-        return t;
-    }
-    idx
 }
 
 // Reflected about the outer faces of the end voxels.
@@ -100,23 +102,14 @@ fn fold_reflect(idx: f64, len: f64) -> f64
 {
     let s2 = 2.0 * len;
     if idx < 0.0 {
-        let mut t = idx;
-        if idx < -s2 {
-            t = s2 * exact::floor(-idx / s2) + idx;
-        }
-        if t < -len {
-            return t + s2;
-        }
-        return -t - 1.0;
+        let t = if idx < -s2 { under(s2, idx) } else { idx };
+        if t < -len { t + s2 } else { -t - 1.0 }
+    } else if idx >= len {
+        let t = over(s2, idx);
+        if t >= len { s2 - t - 1.0 } else { t }
+    } else {
+        idx
     }
-    if idx >= len {
-        let t = idx - s2 * exact::floor(idx / s2);
-        if t >= len {
-            return s2 - t - 1.0;
-        }
-        return t;
-    }
-    idx
 }
 
 // Repeated with the period len - 1: the first and the last voxel overlap.
@@ -125,10 +118,10 @@ fn fold_wrap(idx: f64, len: f64) -> f64
 {
     let s = len - 1.0;
     if idx < 0.0 {
-        return idx + s * (exact::floor(-idx / s) + 1.0);
+        idx + s * (exact::floor(-idx / s) + 1.0)
+    } else if idx >= len {
+        over(s, idx)
+    } else {
+        idx
     }
-    if idx >= len {
-        return idx - s * exact::floor(idx / s);
-    }
-    idx
 }

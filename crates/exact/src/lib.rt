@@ -12,19 +12,18 @@ ghost use Rattle.exact.specs.Bookkeeping.{NotBelowZero};
 pub fn floor(x: f64) -> f64
     ensures { result ≡ floor_f x }
 {
-    if x >= -9007199254740992.0 {
-        if x <= 9007199254740992.0 {
-            let t = std::num::nearest_i64_to_f64(std::num::truncating_f64_to_i64(x));
-            if t == x {
-                return x;
-            }
-            if x < t {
-                return t - 1.0;
-            }
-            return t;
+    if x >= -9007199254740992.0 && x <= 9007199254740992.0 {
+        let t = std::num::nearest_i64_to_f64(std::num::truncating_f64_to_i64(x));
+        if t == x {
+            x
+        } else if x < t {
+            t - 1.0
+        } else {
+            t
         }
+    } else {
+        x
     }
-    x
 }
 
 // The nearest whole number, of two equally near the even one, as Rust's `f64::round_ties_even`: 1.5
@@ -34,9 +33,10 @@ pub fn round_ties_even(x: f64) -> f64
     ensures { result ≡ round_ties_even_f x }
 {
     if x < 0.0 {
-        return -nearest_whole(-x);
+        -nearest_whole(-x)
+    } else {
+        nearest_whole(x)
     }
-    nearest_whole(x)
 }
 
 // The same at an x that is not below 0: of the whole numbers on either side the nearer one.
@@ -45,16 +45,15 @@ fn nearest_whole(x: f64) -> f64
     ensures { result ≡ round_ties_even_f x }
 {
     let f = floor(x);
-    if f == x {
-        return x;
-    }
     let middle = f + 0.5;
-    if x < middle {
-        return f;
+    if f == x {
+        x
+    } else if x < middle {
+        f
+    } else if middle < x {
+        f + 1.0
+    } else {
+        // the even one of f and f + 1
+        floor((f + 1.0) / 2.0) * 2.0
     }
-    if middle < x {
-        return f + 1.0;
-    }
-    // the even one of f and f + 1
-    floor((f + 1.0) / 2.0) * 2.0
 }

@@ -11,7 +11,7 @@ pub const LONGEST: usize = 4096;
 pub const LONGEST_PADDED: usize = LONGEST + 24;
 
 // The most places of input, output and work: 2^27.
-pub const MOST_PLACES: usize = 134217728;
+pub const MOST_PLACES: usize = 1 << 27;
 
 // Whether an axis has one voxel: a single slice.
 pub fn is_single(n: usize) -> bool

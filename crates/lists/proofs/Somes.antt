@@ -1,10 +1,12 @@
--- A test that holds of some number below a bound, or of none.
-use Prim.Native.Nat.{ℕ, zero, suc, ◌<◌}
+-- A test that holds of some number below a bound, or of none; and `any` over the numbers below it.
+use Prim.Native.Nat.{ℕ, zero, suc, ◌+◌, ◌<◌}
 use native.Mathlib.Nat.{not-suc-le-zero, eq-or-lt_of_le, le_of_suc-le-suc, le_refl}
 use native.Mathlib.Omega.{arith}
 use mathlib.Core.Path.{◌≡◌, refl, sym, ap, ◌∙◌, subst}
 use mathlib.Core.Logic.{inl, inr}
 use mathlib.Core.Bool.{Bool, true, false, ◌||◌, true≢false}
+use Rattle.std.specs.List.{list_any, range_with_len}
+use Rattle.std.proofs.Math.Bool.{or-false, or_assoc}
 use Rattle.lists.specs.Some.{some_below}
 
 or_true : (b : Bool) → (b || true) ≡ true
@@ -45,3 +47,15 @@ none-at test n none i l = go (test i) refl
     go : (b : Bool) → test i ≡ b → b ≡ false
     go true e = absurd (true≢false (sym (some_at test n i l e) ∙ none))
     go false e = refl
+
+-- ---- `any` goes over the numbers from 0 on
+any_last : (test : ℕ → Bool) (a n j : ℕ) → a + n ≡ j → list_any test (range_with_len a (suc n)) ≡ (list_any test (range_with_len a n) || test j)
+any_last test a zero j e =
+    let same : a ≡ j = omega arith in
+    or-false (test a) ∙ ap test same
+any_last test a (suc n) j e = ap (λ (b : Bool). test a || b) (any_last test (a + 1) n j (omega arith)) ∙ sym (or_assoc (test a) (list_any test (range_with_len (a + 1) n)) (test j))
+
+pub any_below : (test : ℕ → Bool) (n : ℕ) → list_any test (range_with_len 0 n) ≡ some_below test n
+unfolding some_below
+any_below test zero = refl
+any_below test (suc n) = any_last test 0 n n (omega arith) ∙ ap (λ (b : Bool). b || test n) (any_below test n)

@@ -8,20 +8,20 @@ use Rattle.border.proofs.fold_mirror.Goals as goal
 
 pub returns-then-t-len : goal.returns-then-t-len
 unfolding of_bits of_int
-returns-then-t-len c = mirror_under c.args.idx c.args.len c.floor.result c.floor.ensures c.if-idx.true true c.if-t-len.true
+returns-then-t-len c = mirror_under c.args.idx c.args.len c.under-t.result c.under-t.ensures c.if-idx.true true c.if-t-len.true
 
-pub returns-then-idx : goal.returns-then-idx
+pub returns-else-t-len : goal.returns-else-t-len
 unfolding of_bits of_int
-returns-then-idx c = mirror_under c.args.idx c.args.len c.floor.result c.floor.ensures c.if-idx.true false c.if-t-len.false
+returns-else-t-len c = mirror_under c.args.idx c.args.len c.under-t.result c.under-t.ensures c.if-idx.true false c.if-t-len.false
 
 pub returns-then-t-len-2 : goal.returns-then-t-len-2
 unfolding of_bits of_int
-returns-then-t-len-2 c = mirror_over c.args.idx c.args.len c.floor-then-idx-len.result c.floor-then-idx-len.ensures c.if-idx.false c.if-idx-len.true true c.if-t-len-2.true
+returns-then-t-len-2 c = mirror_over c.args.idx c.args.len c.over-t.result c.over-t.ensures c.if-idx.false c.if-idx-len.true true c.if-t-len-2.true
 
-pub returns-then-idx-len : goal.returns-then-idx-len
+pub returns-else-t-len-2 : goal.returns-else-t-len-2
 unfolding of_bits of_int
-returns-then-idx-len c = mirror_over c.args.idx c.args.len c.floor-then-idx-len.result c.floor-then-idx-len.ensures c.if-idx.false c.if-idx-len.true false c.if-t-len-2.false
+returns-else-t-len-2 c = mirror_over c.args.idx c.args.len c.over-t.result c.over-t.ensures c.if-idx.false c.if-idx-len.true false c.if-t-len-2.false
 
-pub returns : goal.returns
+pub returns-else-idx-len : goal.returns-else-idx-len
 unfolding fold_mirror
-returns c = simp (zero_bits, c.if-idx.false, c.if-idx-len.false)
+returns-else-idx-len c = simp (zero_bits, c.if-idx.false, c.if-idx-len.false)

@@ -11,6 +11,6 @@ pub returns-then-idx-len : goal.returns-then-idx-len
 unfolding fold_nearest
 returns-then-idx-len c = simp (zero_bits, one_bits, c.if-idx.false, c.if-idx-len.true)
 
-pub returns : goal.returns
+pub returns-else-idx-len : goal.returns-else-idx-len
 unfolding fold_nearest
-returns c = simp (zero_bits, one_bits, c.if-idx.false, c.if-idx-len.false)
+returns-else-idx-len c = simp (zero_bits, one_bits, c.if-idx.false, c.if-idx-len.false)

@@ -14,7 +14,7 @@ unfolding of_bits of_int
 stands c =
     let a = c.args in
     elim c.if-idx-s2.branch [
-      | then-idx-s2 w ↦ w.t-is ∙ reflect_far a.idx a.len w.floor.result w.floor.ensures w.if-idx-s2.true
+      | then-idx-s2 w ↦ w.t-is ∙ reflect_far a.idx a.len w.under-t.result w.under-t.ensures w.if-idx-s2.true
       | else-idx-s2 w ↦ w.t-is ∙ reflect_near a.idx a.len a.idx w.if-idx-s2.false
     ]
 
@@ -22,18 +22,18 @@ pub returns-then-t-len : goal.returns-then-t-len
 unfolding of_bits of_int
 returns-then-t-len c = reflect-under c.args.idx c.args.len c.if-idx-s2.t (stands (goal.at.returns-then-t-len c).Joined-idx-s2) c.if-idx.true true c.if-t-len.true
 
-pub returns-then-idx : goal.returns-then-idx
+pub returns-else-t-len : goal.returns-else-t-len
 unfolding of_bits of_int
-returns-then-idx c = reflect-under c.args.idx c.args.len c.if-idx-s2.t (stands (goal.at.returns-then-idx c).Joined-idx-s2) c.if-idx.true false c.if-t-len.false
+returns-else-t-len c = reflect-under c.args.idx c.args.len c.if-idx-s2.t (stands (goal.at.returns-else-t-len c).Joined-idx-s2) c.if-idx.true false c.if-t-len.false
 
 pub returns-then-t-len-2 : goal.returns-then-t-len-2
 unfolding of_bits of_int
-returns-then-t-len-2 c = reflect_over c.args.idx c.args.len c.floor-then-idx-len.result c.floor-then-idx-len.ensures c.if-idx.false c.if-idx-len.true true c.if-t-len-2.true
+returns-then-t-len-2 c = reflect_over c.args.idx c.args.len c.over-t.result c.over-t.ensures c.if-idx.false c.if-idx-len.true true c.if-t-len-2.true
 
-pub returns-then-idx-len : goal.returns-then-idx-len
+pub returns-else-t-len-2 : goal.returns-else-t-len-2
 unfolding of_bits of_int
-returns-then-idx-len c = reflect_over c.args.idx c.args.len c.floor-then-idx-len.result c.floor-then-idx-len.ensures c.if-idx.false c.if-idx-len.true false c.if-t-len-2.false
+returns-else-t-len-2 c = reflect_over c.args.idx c.args.len c.over-t.result c.over-t.ensures c.if-idx.false c.if-idx-len.true false c.if-t-len-2.false
 
-pub returns : goal.returns
+pub returns-else-idx-len : goal.returns-else-idx-len
 unfolding fold_reflect
-returns c = simp (zero_bits, c.if-idx.false, c.if-idx-len.false)
+returns-else-idx-len c = simp (zero_bits, c.if-idx.false, c.if-idx-len.false)

@@ -11,6 +11,6 @@ pub returns-then-idx-last : goal.returns-then-idx-last
 unfolding fold_replicate
 returns-then-idx-last c = simp (zero_bits, one_bits, c.if-idx.false, c.if-idx-last.true)
 
-pub returns : goal.returns
+pub returns-else-idx-last : goal.returns-else-idx-last
 unfolding fold_replicate
-returns c = simp (zero_bits, one_bits, c.if-idx.false, c.if-idx-last.false)
+returns-else-idx-last c = simp (zero_bits, one_bits, c.if-idx.false, c.if-idx-last.false)

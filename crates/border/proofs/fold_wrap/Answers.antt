@@ -10,8 +10,8 @@ returns-then-idx c = simp (zero_bits, one_bits, sym c.floor.ensures, c.if-idx.tr
 
 pub returns-then-idx-len : goal.returns-then-idx-len
 unfolding fold_wrap
-returns-then-idx-len c = simp (zero_bits, one_bits, sym c.floor-then-idx-len.ensures, c.if-idx.false, c.if-idx-len.true)
+returns-then-idx-len c = simp (zero_bits, one_bits, c.over.ensures, c.if-idx.false, c.if-idx-len.true)
 
-pub returns : goal.returns
+pub returns-else-idx-len : goal.returns-else-idx-len
 unfolding fold_wrap
-returns c = simp (zero_bits, one_bits, c.if-idx.false, c.if-idx-len.false)
+returns-else-idx-len c = simp (zero_bits, one_bits, c.if-idx.false, c.if-idx-len.false)

@@ -7,7 +7,7 @@ use Rattle.exact.specs.Whole.{W}
 use Rattle.exact.specs.Within.{Bounded}
 use Rattle.exact.proofs.Value.{of_true, is_true}
 use Rattle.exact.proofs.Floors.{high, low, bounded_of_tests, tests_of_bounded, lt_of_bounded, bounded_mono, floor_outside, floor_same, floor_less, floor_cut}
-use Rattle.exact.proofs.floor.Goals.{After-nearest_i64_to_f64-t, Then-x-2}
+use Rattle.exact.proofs.floor.Goals.{After-nearest_i64_to_f64-t, Then-x-2, else-x-via-then-x+else-x-2, else-x-via-else-x}
 use Rattle.exact.proofs.floor.Goals as goal
 
 in_range : (c : Then-x-2) → Bounded 53 c.args.x
@@ -42,20 +42,17 @@ returns-then-x-t c =
     ∙ ap (λ (z : Float). sub binary64 z (W (pos 1))) k
     ∙ sym (floor_less x (in_range (goal.at.returns-then-x-t c).Then-x-2) (ap (λ (z : Float). eq z x) (sym k) ∙ c.if-t-x.false) (ap (λ (z : Float). lt x z) (sym k) ∙ c.if-x-t.true))
 
-pub returns-then-x-2 : goal.returns-then-x-2
-returns-then-x-2 c =
+pub returns-else-x-t : goal.returns-else-x-t
+returns-else-x-t c =
     let x = c.args.x in
-    let k = cut (goal.at.returns-then-x-2 c).After-nearest_i64_to_f64-t in
-    k ∙ sym (floor_cut x (in_range (goal.at.returns-then-x-2 c).Then-x-2) (ap (λ (z : Float). eq z x) (sym k) ∙ c.if-t-x.false) (ap (λ (z : Float). lt x z) (sym k) ∙ c.if-x-t.false))
-
-pub returns-else-x-2 : goal.returns-else-x-2
-unfolding of_bits
-returns-else-x-2 c =
-    let x = c.args.x in
-    sym (floor_outside x (of_true (fits binary64 x) c.well_formed.0.1) (λ w. true≢false (sym (is_true (le x (high 53)) (tests_of_bounded 53 x w).1) ∙ c.if-x-2.false)))
+    let k = cut (goal.at.returns-else-x-t c).After-nearest_i64_to_f64-t in
+    k ∙ sym (floor_cut x (in_range (goal.at.returns-else-x-t c).Then-x-2) (ap (λ (z : Float). eq z x) (sym k) ∙ c.if-t-x.false) (ap (λ (z : Float). lt x z) (sym k) ∙ c.if-x-t.false))
 
 pub returns-else-x : goal.returns-else-x
 unfolding of_bits neg
 returns-else-x c =
     let x = c.args.x in
-    sym (floor_outside x (of_true (fits binary64 x) c.well_formed.0.1) (λ w. true≢false (sym (is_true (le (low 53) x) (tests_of_bounded 53 x w).0) ∙ c.if-x.false)))
+    sym (floor_outside x (of_true (fits binary64 x) c.well_formed.0.1) (elim c.else-x.branch [
+      | else-x-via-then-x+else-x-2 w ↦ λ t. true≢false (sym (is_true (le x (high 53)) (tests_of_bounded 53 x t).1) ∙ w.if-x-2.false)
+      | else-x-via-else-x w ↦ λ t. true≢false (sym (is_true (le (low 53) x) (tests_of_bounded 53 x t).0) ∙ w.if-x.false)
+    ]))

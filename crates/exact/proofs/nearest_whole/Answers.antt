@@ -25,8 +25,8 @@ pub returns-then-middle-x : goal.returns-then-middle-x
 unfolding of_bits of_int
 returns-then-middle-x c = chosen (goal.at.returns-then-middle-x c).After-floor-f c.if-f-x.false c.if-x-middle.false c.if-middle-x.true
 
-pub returns : goal.returns
+pub returns-else-middle-x : goal.returns-else-middle-x
 unfolding of_bits of_int
-returns c =
+returns-else-middle-x c =
     ap (λ (y : Float). mul binary64 y (W (pos 2))) c.floor.ensures
-    ∙ chosen (goal.at.returns c).After-floor-f c.if-f-x.false c.if-x-middle.false c.if-middle-x.false
+    ∙ chosen (goal.at.returns-else-middle-x c).After-floor-f c.if-f-x.false c.if-x-middle.false c.if-middle-x.false

@@ -1,5 +1,5 @@
 -- `exact::round_ties_even` meets its contract: of a number below 0 it rounds the negative, and negates.
-use Rattle.std.proofs.Common.{Bool, not, T, sym, ap, ◌∙◌, subst}
+use Rattle.std.proofs.Common.{sym, ap, ◌∙◌}
 use lib.Ieee.{of_bits, neg}
 use Rattle.exact.specs.Round.{round_ties_even_f}
 use Rattle.exact.proofs.Rounds.{rounded_neg, neg-neg, neg-not_below}
@@ -13,7 +13,3 @@ pub returns-then-x : goal.returns-then-x
 returns-then-x c =
     let x = c.args.x in
     ap neg c.nearest_whole.ensures ∙ sym (rounded_neg (neg x)) ∙ ap round_ties_even_f (neg-neg x)
-
-pub nearest_whole-requires-2 : goal.nearest_whole-requires-2
-unfolding of_bits
-nearest_whole-requires-2 c = subst (λ (t : Bool). T (not t)) (sym c.if-x.false) tt

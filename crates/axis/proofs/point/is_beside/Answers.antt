@@ -8,6 +8,6 @@ pub returns-then-to : goal.returns-then-to
 unfolding of_bits of_int
 returns-then-to c = let a = c.args in c.is_outside.ensures ∙ beside_by a.mode a.a a.i c.settled_at-to.ensures c.if-to.true c.first_neighbour.ensures
 
-pub returns : goal.returns
+pub returns-else-to : goal.returns-else-to
 unfolding of_bits of_int
-returns c = let a = c.args in dropped_by a.mode a.a a.i c.settled_at-to.ensures c.if-to.false
+returns-else-to c = let a = c.args in c.if-to.false ∙ dropped_by a.mode a.a a.i c.settled_at-to.ensures c.if-to.false

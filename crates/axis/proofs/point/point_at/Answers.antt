@@ -12,6 +12,6 @@ pub returns-then-to : goal.returns-then-to
 unfolding of_bits of_int
 returns-then-to c = let a = c.args in c.kept_point.ensures ∙ point-kept a.order a.mode a.a a.i c.settled_at-to.ensures c.order_on.ensures c.if-to.true
 
-pub returns : goal.returns
+pub returns-else-to : goal.returns-else-to
 unfolding of_bits of_int
-returns c = let a = c.args in point_dropped a.order a.mode a.a a.i c.settled_at-to.ensures c.if-to.false
+returns-else-to c = let a = c.args in c.empty.ensures ∙ point_dropped a.order a.mode a.a a.i c.settled_at-to.ensures c.if-to.false

@@ -8,6 +8,6 @@ pub returns-then-order-eq1 : goal.returns-then-order-eq1
 unfolding base
 returns-then-order-eq1 c = c.floor.ensures ∙ simp (eq-eqb _ _ c.if-order-eq1.true)
 
-pub returns : goal.returns
+pub returns-else-order-eq1 : goal.returns-else-order-eq1
 unfolding base of_bits
-returns c = c.floor-2.ensures ∙ simp (ne_eqb _ _ c.if-order-eq1.false)
+returns-else-order-eq1 c = c.floor-else-order-eq1.ensures ∙ simp (ne_eqb _ _ c.if-order-eq1.false)

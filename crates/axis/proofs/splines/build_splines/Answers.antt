@@ -1,13 +1,13 @@
 -- `axis::splines::build_splines` meets its contract: each arm has the weights of its order.
 use Rattle.std.proofs.Common.{◌≡◌, refl, arith}
-use lib.Ieee.{of_bits, of_int}
+use lib.Ieee.{sub, of_bits, of_int}
 use Rattle.axis.specs.Weights.{leading, leading1, completed, sum_from}
 use Rattle.axis.proofs.Weights.{by_order}
 use Rattle.axis.proofs.splines.build_splines.Goals.{In_default}
 use Rattle.axis.proofs.splines.build_splines.Goals as goal
 
 pub returns-in-0 : goal.returns-in-0
-unfolding leading leading1 completed sum_from of_bits of_int
+unfolding leading leading1 completed sum_from sub of_bits of_int
 returns-in-0 c = by_order c.args.order 0 c.args.to c.base_of.result c.in-0.is c.base_of.ensures refl
 
 pub returns-in-1 : goal.returns-in-1
