@@ -1,0 +1,21 @@
+// The voxels or coefficients that sums read.
+ghost use Rattle.std.specs.Prelude.{◌≡◌, ◌+◌, ◌*◌, ◌<◌, ◌≤◌, length, take, drop};
+
+// Planes of `plane` places with rows of `row`, read at an order.
+#[derive(Clone, Copy)]
+pub struct Source<'a> {
+    pub data: &'a [f64],
+    pub plane: usize,
+    pub row: usize,
+    pub order: usize,
+}
+
+impl<'a> Source<'a> {
+    pub(crate) fn plane_at(&self, i: usize) -> &'a [f64]
+        requires { (0 < self.now.plane) × ((i + 1) * self.now.plane ≤ length self.now.data.now) }
+        ensures places { result.now ≡ take self.now.plane (drop (i * self.now.plane) self.now.data.now) }
+        ensures len { length result.now ≡ self.now.plane }
+    {
+        &self.data[i * self.plane..(i + 1) * self.plane]
+    }
+}
