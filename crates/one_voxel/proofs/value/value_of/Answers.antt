@@ -13,7 +13,7 @@ use Rattle.one_voxel.proofs.value.value_of.Goals as goal
 
 pub value_at-requires : goal.value_at-requires
 value_at-requires c =
-    let need = c.needed-need in
+    let need = c.needed in
     let p = c.requires.admitted in
     let at = c.requires.inside in
     let f = sym c.filters.ensures ∙ c.if-filters.true in
@@ -21,7 +21,7 @@ value_at-requires c =
 
 pub returns-then-filters : goal.returns-then-filters
 returns-then-filters c =
-    let need = c.needed-need in
+    let need = c.needed in
     let a = c.args in
     let n : need.result - 0 ≡ need.result = omega arith in
     c.value_at.ensures ∙ ap (λ (xs : List Float). voxel_at a.r.order a.r.mode a.a.x a.a.y a.a.z xs (get_or a.at 0 0) (get_or a.at 1 0) (get_or a.at 2 0)) (from_work a.r a.input.now a.work.now (sym c.filters.ensures ∙ c.if-filters.true) (n ∙ need.ensures))
@@ -32,7 +32,7 @@ value_at-requires-2 c =
     let at = c.requires.inside in
     let f = sym c.filters.ensures ∙ c.if-filters.false in record { data_len = p.all ∙ sym (plain_count c.args.r (plain_edges c.args.r f)) ∙ p.long; len_le_longest_padded = (p.rows, p.row); reached = (p.x.each _ at.x, (p.y.each _ at.y, p.z.each _ at.z)) }
 
-pub returns : goal.returns
-returns c =
+pub returns-else-filters : goal.returns-else-filters
+returns-else-filters c =
     let a = c.args in
     c.value_at-2.ensures ∙ ap (λ (xs : List Float). voxel_at a.r.order a.r.mode a.a.x a.a.y a.a.z xs (get_or a.at 0 0) (get_or a.at 1 0) (get_or a.at 2 0)) (from_input a.r a.input.now a.work.now (sym c.filters.ensures ∙ c.if-filters.false))
