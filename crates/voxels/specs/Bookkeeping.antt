@@ -6,7 +6,7 @@ use Rattle.lists.specs.Bookkeeping.{Filled}
 use Rattle.border.specs.declared.BorderMode.{BorderMode}
 use Rattle.axis.specs.declared.coordinate.Axis.{Axis}
 use Rattle.axis.specs.declared.point.Point.{Point}
-use Rattle.axis.specs.Point.{is_kept_mark, point_at}
+use Rattle.axis.specs.Point.{is_kept, point_at}
 use Rattle.voxels.specs.declared.sum.Four.{Four}
 use Rattle.voxels.specs.declared.table.Table.{Table}
 use Rattle.coverage.specs.Coverage.{kept_at, drop_value}
@@ -71,7 +71,7 @@ with_four flags dropped l o v =
 
 -- place k of a row at the records x and y
 abbrev pub row_value : ℕ → BorderMode → List Float → ℕ → ℕ → Table → Point → Point → ℕ → Float
-row_value order mode xs plane row t x y k = cond (is_kept_mark x.mark && is_kept_mark y.mark && get_or t.kept k false) (computed order xs plane row (tap_of x) (tap_of y) (column t k)) (drop_value mode)
+row_value order mode xs plane row t x y k = cond (is_kept x.mark && is_kept y.mark && get_or t.kept k false) (computed order xs plane row (tap_of x) (tap_of y) (column t k)) (drop_value mode)
 
 -- place m of a plane at the record x
 abbrev pub plane_value : ℕ → BorderMode → List Float → ℕ → ℕ → Table → Point → Axis → ℕ → Float

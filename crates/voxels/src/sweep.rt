@@ -13,7 +13,7 @@ use crate::source::Source;
 use crate::sum::{Four, sum_four};
 use crate::table::{TABLE, Table};
 use axis::coordinate::Axis;
-use axis::point::{Point, is_kept_mark, point_at};
+use axis::point::{Point, point_at};
 use border::BorderMode;
 use coverage::cover::drop_value;
 use limits::LONGEST;
@@ -115,7 +115,7 @@ fn value_row(
     ensures { out.new ≡ tabulate table.now.width (row_value source.now.order mode source.now.data.now source.now.plane source.now.row table.now x.now y.now) }
 {
     let dropped = drop_value(mode);
-    if is_kept_mark(x.mark) && is_kept_mark(y.mark) {
+    if x.mark.is_kept() && y.mark.is_kept() {
         kept_row(out, source, table, x, y, dropped);
     } else {
         out.fill(dropped);

@@ -6,7 +6,7 @@ ghost use Rattle.axis.specs.Bookkeeping.{Reaches};
 ghost use Rattle.voxels.specs.Bookkeeping.{table_size, Tabled, Column};
 
 use axis::coordinate::Axis;
-use axis::point::{is_kept_mark, point_at};
+use axis::point::point_at;
 use border::BorderMode;
 use limits::LONGEST;
 
@@ -42,7 +42,7 @@ impl Table {
         self.width = a.out;
         for i in 0..a.out {
             let point = point_at(a, i, order, mode);
-            self.kept[i] = is_kept_mark(point.mark);
+            self.kept[i] = point.mark.is_kept();
             put_column(&mut self.at, &point.at, i);
             put_column(&mut self.weight, &point.weight, i);
         }
