@@ -9,9 +9,6 @@ use Rattle.voxels.proofs.Sweeping.{point_planes}
 use Rattle.one_voxel.proofs.Voxels.{value_kept, value_dropped}
 use Rattle.one_voxel.proofs.value.value_at.Goals as goal
 
-pub overflow_mul-ya : goal.overflow_mul-ya
-overflow_mul-ya c = let p = c.requires in omega (arith, mul-le-mul p.len_le_longest_padded.0 p.len_le_longest_padded.1)
-
 pub computed_at-requires : goal.computed_at-requires
 computed_at-requires c =
     let a = c.args in
