@@ -28,13 +28,13 @@ fn all_kept(x: &Point, y: &Point, z: &Point) -> bool
 // What three records of kept indices read.
 fn computed_at(source: &Source, x: &Point, y: &Point, z: &Point) -> f64
     requires order_bound { source.now.order ≤ 5 }
-    requires planes { Planes x.now.at (source.now.order + 1) source.now.plane (length source.now.data.now) }
+    requires planes { Planes x.now.at (source.now.order + 1) source.now.plane (length source.now.numbers.now) }
     requires rows { Planes y.now.at (source.now.order + 1) source.now.row source.now.plane }
     requires places { Planes z.now.at (source.now.order + 1) 1 source.now.row }
-    ensures { result ≡ computed source.now.order source.now.data.now source.now.plane source.now.row (tap_of x.now) (tap_of y.now) (tap_of z.now) }
+    ensures { result ≡ computed source.now.order source.now.numbers.now source.now.plane source.now.row (tap_of x.now) (tap_of y.now) (tap_of z.now) }
 {
     if source.order == 0 {
-        source.data[x.at[0] * source.plane + (y.at[0] * source.row + z.at[0])]
+        source.numbers[x.at[0] * source.plane + (y.at[0] * source.row + z.at[0])]
     } else {
         sum_at(source, x, y, z)
     }
@@ -52,7 +52,7 @@ fn value_at(data: &[f64], a: Axes, order: usize, mode: BorderMode, at: [usize; 3
     let z = point_at(a.z, at[2], order, mode);
     if all_kept(&x, &y, &z) {
         let source = Source {
-            data,
+            numbers: data,
             plane: a.y.len * a.z.len,
             row: a.z.len,
             order,

@@ -4,7 +4,7 @@ ghost use Rattle.std.specs.Prelude.{◌≡◌, ◌+◌, ◌*◌, ◌<◌, ◌≤
 // Planes of `plane` places with rows of `row`, read at an order.
 #[derive(Clone, Copy)]
 pub struct Source<'a> {
-    pub data: &'a [f64],
+    pub numbers: &'a [f64],
     pub plane: usize,
     pub row: usize,
     pub order: usize,
@@ -12,10 +12,10 @@ pub struct Source<'a> {
 
 impl<'a> Source<'a> {
     pub(crate) fn plane_at(&self, i: usize) -> &'a [f64]
-        requires { (0 < self.now.plane) × ((i + 1) * self.now.plane ≤ length self.now.data.now) }
-        ensures places { result.now ≡ take self.now.plane (drop (i * self.now.plane) self.now.data.now) }
+        requires { (0 < self.now.plane) × ((i + 1) * self.now.plane ≤ length self.now.numbers.now) }
+        ensures places { result.now ≡ take self.now.plane (drop (i * self.now.plane) self.now.numbers.now) }
         ensures len { length result.now ≡ self.now.plane }
     {
-        &self.data[i * self.plane..(i + 1) * self.plane]
+        &self.numbers[i * self.plane..(i + 1) * self.plane]
     }
 }

@@ -73,8 +73,8 @@ fn moved(by: usize, z: Four<usize>) -> Four<usize>
 fn add_x(source: &Source, x: &Point, at: Four<usize>, v: Four<f64>, sum: Four<f64>) -> Four<f64>
     requires order_bound { source.now.order ≤ 5 }
     requires places { Each (λ i. i < source.now.plane) at }
-    requires planes { Planes x.now.at (source.now.order + 1) source.now.plane (length source.now.data.now) }
-    ensures { (j : ℕ) → at_lane result j ≡ sum_x source.now.data.now source.now.plane (tap_of x.now) (at_lane at j) (at_lane v j) (at_lane sum j) (source.now.order + 1) }
+    requires planes { Planes x.now.at (source.now.order + 1) source.now.plane (length source.now.numbers.now) }
+    ensures { (j : ℕ) → at_lane result j ≡ sum_x source.now.numbers.now source.now.plane (tap_of x.now) (at_lane at j) (at_lane v j) (at_lane sum j) (source.now.order + 1) }
 {
     let mut t = sum;
     for k in 0..source.order + 1 {
@@ -93,9 +93,9 @@ fn add_y(
 ) -> Four<f64>
     requires order_bound { source.now.order ≤ 5 }
     requires places { Each (λ i. i < source.now.row) z }
-    requires planes { Planes x.now.at (source.now.order + 1) source.now.plane (length source.now.data.now) }
+    requires planes { Planes x.now.at (source.now.order + 1) source.now.plane (length source.now.numbers.now) }
     requires rows { Planes y.now.at (source.now.order + 1) source.now.row source.now.plane }
-    ensures { (j : ℕ) → at_lane result j ≡ sum_y source.now.data.now source.now.plane source.now.row (source.now.order + 1) (tap_of x.now) (tap_of y.now) (at_lane z j) (at_lane w j) (at_lane sum j) (source.now.order + 1) }
+    ensures { (j : ℕ) → at_lane result j ≡ sum_y source.now.numbers.now source.now.plane source.now.row (source.now.order + 1) (tap_of x.now) (tap_of y.now) (at_lane z j) (at_lane w j) (at_lane sum j) (source.now.order + 1) }
 {
     let mut t = sum;
     for k in 0..source.order + 1 {
@@ -110,10 +110,10 @@ fn add_y(
 pub(crate) fn sum_four(source: &Source, table: &Table, x: &Point, y: &Point, o: usize) -> Four<f64>
     requires order_bound { source.now.order ≤ 5 }
     requires o_lt_longest { o < longest }
-    requires planes { Planes x.now.at (source.now.order + 1) source.now.plane (length source.now.data.now) }
+    requires planes { Planes x.now.at (source.now.order + 1) source.now.plane (length source.now.numbers.now) }
     requires rows { Planes y.now.at (source.now.order + 1) source.now.row source.now.plane }
     requires inside { Inside table.now.at source.now.row }
-    ensures { (j : ℕ) → at_lane result j ≡ sum_at source.now.data.now source.now.plane source.now.row (source.now.order + 1) (tap_of x.now) (tap_of y.now) (column table.now (o + lane j)) }
+    ensures { (j : ℕ) → at_lane result j ≡ sum_at source.now.numbers.now source.now.plane source.now.row (source.now.order + 1) (tap_of x.now) (tap_of y.now) (column table.now (o + lane j)) }
 {
     let mut t = Four {
         a: 0.0,

@@ -60,10 +60,10 @@ fn put_four(out: &mut [f64], kept: &[bool], o: usize, t: Four<f64>, dropped: f64
 fn sum_row(out: &mut [f64], source: &Source, table: &Table, x: &Point, y: &Point, dropped: f64)
     requires order_bound { source.now.order ≤ 5 }
     requires out_len { length out.old ≤ longest }
-    requires planes { Planes x.now.at (source.now.order + 1) source.now.plane (length source.now.data.now) }
+    requires planes { Planes x.now.at (source.now.order + 1) source.now.plane (length source.now.numbers.now) }
     requires rows { Planes y.now.at (source.now.order + 1) source.now.row source.now.plane }
     requires inside { Inside table.now.at source.now.row }
-    ensures { out.new ≡ tabulate (length out.old) (λ k. cond (get_or table.now.kept k false) (sum_at source.now.data.now source.now.plane source.now.row (source.now.order + 1) (tap_of x.now) (tap_of y.now) (column table.now k)) dropped) }
+    ensures { out.new ≡ tabulate (length out.old) (λ k. cond (get_or table.now.kept k false) (sum_at source.now.numbers.now source.now.plane source.now.row (source.now.order + 1) (tap_of x.now) (tap_of y.now) (column table.now k)) dropped) }
 {
     for o in (0..out.len()).step_by(4) {
         put_four(
@@ -80,10 +80,10 @@ fn sum_row(out: &mut [f64], source: &Source, table: &Table, x: &Point, y: &Point
 fn kept_row(out: &mut [f64], source: &Source, table: &Table, x: &Point, y: &Point, dropped: f64)
     requires order_bound { source.now.order ≤ 5 }
     requires out_len { length out.old ≤ longest }
-    requires planes { Planes x.now.at (source.now.order + 1) source.now.plane (length source.now.data.now) }
+    requires planes { Planes x.now.at (source.now.order + 1) source.now.plane (length source.now.numbers.now) }
     requires rows { Planes y.now.at (source.now.order + 1) source.now.row source.now.plane }
     requires inside { Inside table.now.at source.now.row }
-    ensures { out.new ≡ tabulate (length out.old) (λ k. cond (get_or table.now.kept k false) (computed source.now.order source.now.data.now source.now.plane source.now.row (tap_of x.now) (tap_of y.now) (column table.now k)) dropped) }
+    ensures { out.new ≡ tabulate (length out.old) (λ k. cond (get_or table.now.kept k false) (computed source.now.order source.now.numbers.now source.now.plane source.now.row (tap_of x.now) (tap_of y.now) (column table.now k)) dropped) }
 {
     if source.order == 0 {
         copy_row(
@@ -109,10 +109,10 @@ fn value_row(
 )
     requires order_bound { source.now.order ≤ 5 }
     requires out_len { (length out.old ≡ table.now.width) × (table.now.width ≤ longest) }
-    requires planes { Planes x.now.at (source.now.order + 1) source.now.plane (length source.now.data.now) }
+    requires planes { Planes x.now.at (source.now.order + 1) source.now.plane (length source.now.numbers.now) }
     requires rows { Planes y.now.at (source.now.order + 1) source.now.row source.now.plane }
     requires inside { Inside table.now.at source.now.row }
-    ensures { out.new ≡ tabulate table.now.width (row_value source.now.order mode source.now.data.now source.now.plane source.now.row table.now x.now y.now) }
+    ensures { out.new ≡ tabulate table.now.width (row_value source.now.order mode source.now.numbers.now source.now.plane source.now.row table.now x.now y.now) }
 {
     let dropped = drop_value(mode);
     if x.mark.is_kept() && y.mark.is_kept() {
@@ -133,11 +133,11 @@ fn value_plane(
 )
     requires order_bound { source.now.order ≤ 5 }
     requires out_len { (length out.old ≡ ya.out * table.now.width) × (table.now.width ≤ longest) }
-    requires planes { Planes x.now.at (source.now.order + 1) source.now.plane (length source.now.data.now) }
+    requires planes { Planes x.now.at (source.now.order + 1) source.now.plane (length source.now.numbers.now) }
     requires plane_value { source.now.plane ≡ ya.len * source.now.row }
     requires inside { Inside table.now.at source.now.row }
     requires reaches { Reaches source.now.order ya }
-    ensures { out.new ≡ tabulate (ya.out * table.now.width) (plane_value source.now.order mode source.now.data.now source.now.plane source.now.row table.now x.now ya) }
+    ensures { out.new ≡ tabulate (ya.out * table.now.width) (plane_value source.now.order mode source.now.numbers.now source.now.plane source.now.row table.now x.now ya) }
 {
     let width = table.width;
     for j in 0..ya.out {
@@ -164,11 +164,11 @@ fn value_planes(
 )
     requires order_bound { source.now.order ≤ 5 }
     requires out_len { (length out.old ≡ xa.out * (ya.out * table.now.width)) × (table.now.width ≤ longest) }
-    requires data_len { length source.now.data.now ≡ xa.len * source.now.plane }
+    requires data_len { length source.now.numbers.now ≡ xa.len * source.now.plane }
     requires plane_value { source.now.plane ≡ ya.len * source.now.row }
     requires inside { Inside table.now.at source.now.row }
     requires reaches { Reaches source.now.order xa × Reaches source.now.order ya }
-    ensures { out.new ≡ tabulate (xa.out * (ya.out * table.now.width)) (volume_value source.now.order mode source.now.data.now source.now.plane source.now.row table.now xa ya) }
+    ensures { out.new ≡ tabulate (xa.out * (ya.out * table.now.width)) (volume_value source.now.order mode source.now.numbers.now source.now.plane source.now.row table.now xa ya) }
 {
     let size = ya.out * table.width;
     for i in 0..xa.out {
@@ -209,7 +209,7 @@ pub fn sweep(
     };
     table.fill(za, order, mode);
     let source = Source {
-        data,
+        numbers: data,
         plane: ya.len * za.len,
         row: za.len,
         order,

@@ -13,10 +13,10 @@ pub returns-then-source-eq0 : goal.returns-then-source-eq0
 returns-then-source-eq0 c =
     let a = c.args in
     let s = a.source.now in
-    computed_copy s.order s.data.now s.plane s.row (tap_of a.x.now) (tap_of a.y.now) (tap_of a.z.now) c.if-source-eq0.true refl
+    computed_copy s.order s.numbers.now s.plane s.row (tap_of a.x.now) (tap_of a.y.now) (tap_of a.z.now) c.if-source-eq0.true refl
 
 pub returns-else-source-eq0 : goal.returns-else-source-eq0
 returns-else-source-eq0 c =
     let a = c.args in
     let s = a.source.now in
-    c.sum_at.ensures ∙ computed-sum s.order s.data.now s.plane s.row (tap_of a.x.now) (tap_of a.y.now) (tap_of a.z.now) c.if-source-eq0.false
+    c.sum_at.ensures ∙ computed-sum s.order s.numbers.now s.plane s.row (tap_of a.x.now) (tap_of a.y.now) (tap_of a.z.now) c.if-source-eq0.false

@@ -32,12 +32,12 @@ returns-then-source-eq0 c =
     ∙ tabulate_same (length a.out.now) _ _ (λ k h.
     let in-row = inside (goal.at.returns-then-source-eq0 c).Start k (omega arith) in
     ap (λ (v : Float). cond (get_or a.table.now.kept k false) v a.dropped)
-    (rw c.plane_at.ensures.places (in_part nan s.data.now (get_or a.x.now.at 0 0 * s.plane) s.plane _ in-row)
-    ∙ computed_copy s.order s.data.now s.plane s.row (tap_of a.x.now) (tap_of a.y.now) (column a.table.now k) c.if-source-eq0.true (ap (λ (m : ℕ). get_or a.table.now.at m 0) (sym (zero-add k)))))
+    (rw c.plane_at.ensures.places (in_part nan s.numbers.now (get_or a.x.now.at 0 0 * s.plane) s.plane _ in-row)
+    ∙ computed_copy s.order s.numbers.now s.plane s.row (tap_of a.x.now) (tap_of a.y.now) (column a.table.now k) c.if-source-eq0.true (ap (λ (m : ℕ). get_or a.table.now.at m 0) (sym (zero-add k)))))
 
 pub returns-else-source-eq0 : goal.returns-else-source-eq0
 returns-else-source-eq0 c =
     let a = c.args in
     let s = a.source.now in
     c.sum_row.ensures
-    ∙ tabulate_same (length a.out.now) _ _ (λ k _. ap (λ (v : Float). cond (get_or a.table.now.kept k false) v a.dropped) (computed-sum s.order s.data.now s.plane s.row (tap_of a.x.now) (tap_of a.y.now) (column a.table.now k) c.if-source-eq0.false))
+    ∙ tabulate_same (length a.out.now) _ _ (λ k _. ap (λ (v : Float). cond (get_or a.table.now.kept k false) v a.dropped) (computed-sum s.order s.numbers.now s.plane s.row (tap_of a.x.now) (tap_of a.y.now) (column a.table.now k) c.if-source-eq0.false))

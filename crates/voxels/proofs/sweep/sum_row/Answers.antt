@@ -19,7 +19,7 @@ module _ (s : Start) where
   sum m =
       let a = s.args in
       let source = a.source.now in
-      sum_at source.data.now source.plane source.row (source.order + 1) (tap_of a.x.now) (tap_of a.y.now) (column a.table.now m)
+      sum_at source.numbers.now source.plane source.row (source.order + 1) (tap_of a.x.now) (tap_of a.y.now) (column a.table.now m)
 
   abbrev value : ℕ → Float
   value m = cond (get_or s.args.table.now.kept m false) (sum m) s.args.dropped

@@ -10,4 +10,4 @@ use Rattle.voxels.proofs.Sweeping.{Upto}
 use Rattle.voxels.proofs.sweep.sum_row.Given as goal
 
 abbrev pub invariant-loop-o : goal.invariant-loop-o
-invariant-loop-o l = Upto (λ (m : ℕ). cond (get_or l.table.kept m false) (sum_at l.source.data.now l.source.plane l.source.row (l.source.order + 1) (tap_of l.x) (tap_of l.y) (column l.table m)) l.dropped) nan l.out l.o
+invariant-loop-o l = Upto (λ (m : ℕ). cond (get_or l.table.kept m false) (sum_at l.source.numbers.now l.source.plane l.source.row (l.source.order + 1) (tap_of l.x) (tap_of l.y) (column l.table m)) l.dropped) nan l.out l.o

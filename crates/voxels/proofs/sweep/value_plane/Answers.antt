@@ -19,7 +19,7 @@ loop-j-preserved c =
     let l = c.loop-j in
     let s = a.source.now in
     let call = c.value_row in
-    next_written _ nan _ a.ya.out l.out call.new.out l.j (omega arith) l.invariant call.auto.out (row_filled s.order a.mode s.data.now s.plane s.row a.table.now a.ya a.x.now c.point_at-y.result l.j call.new.out c.point_at-y.ensures call.ensures)
+    next_written _ nan _ a.ya.out l.out call.new.out l.j (omega arith) l.invariant call.auto.out (row_filled s.order a.mode s.numbers.now s.plane s.row a.table.now a.ya a.x.now c.point_at-y.result l.j call.new.out c.point_at-y.ensures call.ensures)
 
 pub returns : goal.returns
 returns c = all_written _ nan _ c.args.ya.out c.loop-j.out c.loop-j.j (omega arith) c.loop-j.invariant

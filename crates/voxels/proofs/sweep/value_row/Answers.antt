@@ -14,4 +14,4 @@ returns-else-is_kept c =
       | else-is_kept-via-then-is_kept+else-is_kept-2 w ↦ simp (sym c.is_kept.ensures ∙ w.if-is_kept.true, sym w.is_kept-then-is_kept.ensures ∙ w.if-is_kept-2.false)
       | else-is_kept-via-else-is_kept w ↦ simp (sym c.is_kept.ensures ∙ w.if-is_kept.false)
     ] in
-    c.fill.ensures.after (λ y e. e) ∙ row_dropped s.order a.mode s.data.now s.plane s.row a.table.now a.x.now a.y.now c.requires.out_len.0 c.drop_value-dropped.ensures out
+    c.fill.ensures.after (λ y e. e) ∙ row_dropped s.order a.mode s.numbers.now s.plane s.row a.table.now a.x.now a.y.now c.requires.out_len.0 c.drop_value-dropped.ensures out
