@@ -22,6 +22,20 @@ pub struct Four<T> {
     pub d: T,
 }
 
+impl<T: Copy> Four<T> {
+    fn map<U, F: Fn(T) -> U>(self, f: F) -> Four<U>
+        requires { Each (F.pre f) self }
+        ensures { (j : ℕ) → F.post f (at_lane self j) (at_lane result j) }
+    {
+        Four {
+            a: f(self.a),
+            b: f(self.b),
+            c: f(self.c),
+            d: f(self.d),
+        }
+    }
+}
+
 fn four_at<T: Copy>(items: &[T], i: usize) -> Four<T>
     requires { i + 3 < length items.now }
     ensures { (j : ℕ) (d : T) → at_lane result j ≡ get_or items.now (i + lane j) d }
@@ -44,29 +58,6 @@ fn step(p: &[f64], w: f64, v: Four<f64>, at: Four<usize>, t: Four<f64>) -> Four<
         b: t.b + p[at.b] * (w * v.b),
         c: t.c + p[at.c] * (w * v.c),
         d: t.d + p[at.d] * (w * v.d),
-    }
-}
-
-fn times(w: f64, z: Four<f64>) -> Four<f64>
-    ensures { (j : ℕ) → at_lane result j ≡ w ⊗ at_lane z j }
-{
-    Four {
-        a: w * z.a,
-        b: w * z.b,
-        c: w * z.c,
-        d: w * z.d,
-    }
-}
-
-fn moved(by: usize, z: Four<usize>) -> Four<usize>
-    requires { Each (λ i. by + i ≤ usize.MAX) z }
-    ensures { (j : ℕ) → at_lane result j ≡ by + at_lane z j }
-{
-    Four {
-        a: by + z.a,
-        b: by + z.b,
-        c: by + z.c,
-        d: by + z.d,
     }
 }
 
@@ -99,8 +90,9 @@ fn add_y(
 {
     let mut t = sum;
     for k in 0..source.order + 1 {
-        let at = moved(y.at[k] * source.row, z);
-        t = add_x(source, x, at, times(y.weight[k], w), t);
+        let start = y.at[k] * source.row;
+        let v = y.weight[k];
+        t = add_x(source, x, z.map(|place| start + place), w.map(|w| v * w), t);
     }
     t
 }
