@@ -3,14 +3,14 @@
 ghost use Rattle.std.specs.Prelude.{◌≡◌, ◌+◌, ◌<◌, ◌≤◌, length};
 ghost use Rattle.voxels.specs.Sum.{sum_x, sum_y, sum_at};
 ghost use Rattle.voxels.specs.Voxel.{tap_of};
-ghost use Rattle.voxels.specs.Bookkeeping.{Planes};
+ghost use Rattle.voxels.specs.Bookkeeping.{InSource, Planes, computed_of, sum_of};
 
 use axis::point::Point;
 use voxels::source::Source;
 
 // At a place of each plane, with the weight v of the other two axes.
 fn add_x(source: &Source, x: &Point, place: usize, v: f64, sum: f64) -> f64
-    requires order_bound { (source.now.order ≤ 5) × (place < source.now.plane) }
+    requires in_plane { place < source.now.plane }
     requires planes { Planes x.now.at (source.now.order + 1) source.now.plane (length source.now.numbers.now) }
     ensures { result ≡ sum_x source.now.numbers.now source.now.plane (tap_of x.now) place v sum (source.now.order + 1) }
 {
@@ -23,9 +23,8 @@ fn add_x(source: &Source, x: &Point, place: usize, v: f64, sum: f64) -> f64
 
 // At place z of each row, with the weight w of axis 2.
 fn add_y(source: &Source, x: &Point, y: &Point, z: usize, w: f64, sum: f64) -> f64
-    requires order_bound { (source.now.order ≤ 5) × (z < source.now.row) }
-    requires planes { Planes x.now.at (source.now.order + 1) source.now.plane (length source.now.numbers.now) }
-    requires rows { Planes y.now.at (source.now.order + 1) source.now.row source.now.plane }
+    requires in_row { z < source.now.row }
+    requires in_source { InSource source.now x.now y.now }
     ensures { result ≡ sum_y source.now.numbers.now source.now.plane source.now.row (source.now.order + 1) (tap_of x.now) (tap_of y.now) z w sum (source.now.order + 1) }
 {
     let mut t = sum;
@@ -36,11 +35,9 @@ fn add_y(source: &Source, x: &Point, y: &Point, z: usize, w: f64, sum: f64) -> f
 }
 
 pub(crate) fn sum_at(source: &Source, x: &Point, y: &Point, z: &Point) -> f64
-    requires order_bound { source.now.order ≤ 5 }
-    requires planes { Planes x.now.at (source.now.order + 1) source.now.plane (length source.now.numbers.now) }
-    requires rows { Planes y.now.at (source.now.order + 1) source.now.row source.now.plane }
+    requires in_source { InSource source.now x.now y.now }
     requires places { Planes z.now.at (source.now.order + 1) 1 source.now.row }
-    ensures { result ≡ sum_at source.now.numbers.now source.now.plane source.now.row (source.now.order + 1) (tap_of x.now) (tap_of y.now) (tap_of z.now) }
+    ensures { result ≡ sum_of source.now (tap_of x.now) (tap_of y.now) (tap_of z.now) }
 {
     let mut t = 0.0;
     for k in 0..source.order + 1 {

@@ -6,7 +6,7 @@ ghost use Rattle.axis.specs.Bookkeeping.{Reached};
 ghost use Rattle.request.specs.Sizes.{needed};
 ghost use Rattle.refusal.specs.Bookkeeping.{Admitted};
 ghost use Rattle.voxels.specs.Voxel.{tap_of, computed, voxel_at};
-ghost use Rattle.voxels.specs.Bookkeeping.{Planes};
+ghost use Rattle.voxels.specs.Bookkeeping.{InSource, Planes, computed_of, sum_of};
 ghost use Rattle.one_voxel.specs.Call.{lent_source};
 ghost use Rattle.one_voxel.specs.Bookkeeping.{Inside};
 
@@ -27,11 +27,9 @@ fn all_kept(x: &Point, y: &Point, z: &Point) -> bool
 
 // What three records of kept indices read.
 fn computed_at(source: &Source, x: &Point, y: &Point, z: &Point) -> f64
-    requires order_bound { source.now.order ≤ 5 }
-    requires planes { Planes x.now.at (source.now.order + 1) source.now.plane (length source.now.numbers.now) }
-    requires rows { Planes y.now.at (source.now.order + 1) source.now.row source.now.plane }
+    requires in_source { InSource source.now x.now y.now }
     requires places { Planes z.now.at (source.now.order + 1) 1 source.now.row }
-    ensures { result ≡ computed source.now.order source.now.numbers.now source.now.plane source.now.row (tap_of x.now) (tap_of y.now) (tap_of z.now) }
+    ensures { result ≡ computed_of source.now (tap_of x.now) (tap_of y.now) (tap_of z.now) }
 {
     if source.order == 0 {
         source.numbers[x.at[0] * source.plane + (y.at[0] * source.row + z.at[0])]

@@ -22,13 +22,14 @@ use Rattle.axis.specs.Point.{is_kept, point_at}
 use Rattle.axis.specs.Bookkeeping.{Reached}
 use Rattle.axis.proofs.Points.{kept_by_mark}
 use Rattle.voxels.specs.Sum.{Tap, sum_y, sum_z, sum_at}
+use Rattle.voxels.specs.declared.source.Source.{Source}
 use Rattle.voxels.specs.declared.sum.Four.{Four}
 use Rattle.voxels.specs.declared.table.Table.{Table}
 use Rattle.voxels.specs.Bookkeeping.{column, lane, at_lane, Planes, Tabled}
 use Rattle.coverage.specs.Coverage.{kept_at, drop_value, x_of, y_of, z_of}
 use Rattle.voxels.specs.Voxel.{tap_of, computed, voxel_at, values}
 use Rattle.voxels.proofs.Tables.{point_inside}
-use Rattle.voxels.specs.Bookkeeping.{with_voxel, with_four, row_value, plane_value, volume_value}
+use Rattle.voxels.specs.Bookkeeping.{with_voxel, with_four, computed_of, row_value, plane_value, volume_value}
 
 -- ---- the first k places, those that there are
 abbrev pub Upto : {A : Type 0} → (ℕ → A) → A → List A → ℕ → Type 0
@@ -94,39 +95,42 @@ unfolding tabulate
 replicated zero x = refl
 replicated (suc n) x = ap (λ (l : List _). x ∷ l) (replicated n x)
 
-pub row_dropped :
-    (order : ℕ) (mode : BorderMode) (xs : List Float) (plane row : ℕ) (t : Table) (x y : Point) {n : ℕ} {dropped : Float} → n ≡ t.width → dropped ≡ drop_value mode → (is_kept x.mark && is_kept y.mark) ≡ false →
-    replicate n dropped ≡ tabulate t.width (row_value order mode xs plane row t x y)
-row_dropped order mode xs plane row t x y w d e =
+pub row_dropped : (mode : BorderMode) (s : Source) (t : Table) (x y : Point) {n : ℕ} {dropped : Float} → n ≡ t.width → dropped ≡ drop_value mode → (is_kept x.mark && is_kept y.mark) ≡ false → replicate n dropped ≡ tabulate t.width (row_value mode s t x y)
+row_dropped mode s t x y w d e =
     (λ i. replicate (w i) (d i)) ∙ replicated t.width (drop_value mode)
-    ∙ (λ i. tabulate t.width (λ k. cond (sym e i && get_or t.kept k false) (computed order xs plane row (tap_of x) (tap_of y) (column t k)) (drop_value mode)))
+    ∙ (λ i. tabulate t.width (λ k. cond (sym e i && get_or t.kept k false) (computed_of s (tap_of x) (tap_of y) (column t k)) (drop_value mode)))
 
 -- ---- a row that was written is row j of its plane, a plane plane i of the volume
-module _ (order : ℕ) (mode : BorderMode) (xs : List Float) (plane row : ℕ) (t : Table) (ya : Axis) where
-  pub row_filled :
-      (x y : Point) (j : ℕ) (ys : List Float) → y ≡ point_at order mode ya j → ys ≡ tabulate t.width (row_value order mode xs plane row t x y) →
-      Filled (λ (m : ℕ). plane_value order mode xs plane row t x ya (j * t.width + m)) nan ys t.width
+module _ (mode : BorderMode) (s : Source) (t : Table) (ya : Axis) where
+  pub row_filled : (x y : Point) (j : ℕ) (ys : List Float) → y ≡ point_at s.order mode ya j → ys ≡ tabulate t.width (row_value mode s t x y) → Filled (λ (m : ℕ). plane_value mode s t x ya (j * t.width + m)) nan ys t.width
   row_filled x y j ys p e m h =
-      ap (λ (l : List Float). get_or l m nan) e ∙ get_d_tabulate t.width (row_value order mode xs plane row t x y) nan m h
-      ∙ (λ i. row_value order mode xs plane row t x (p i) m)
-      ∙ (λ i. row_value order mode xs plane row t x (point_at order mode ya (sym (digits_div j h) i)) (sym (digits_mod j h) i))
+      ap (λ (l : List Float). get_or l m nan) e ∙ get_d_tabulate t.width (row_value mode s t x y) nan m h
+      ∙ (λ i. row_value mode s t x (p i) m)
+      ∙ (λ i. row_value mode s t x (point_at s.order mode ya (sym (digits_div j h) i)) (sym (digits_mod j h) i))
 
   pub plane_filled :
-      (xa : Axis) (x : Point) (i : ℕ) (ys : List Float) → x ≡ point_at order mode xa i → ys ≡ tabulate (ya.out * t.width) (plane_value order mode xs plane row t x ya) →
-      Filled (λ (m : ℕ). volume_value order mode xs plane row t xa ya (i * (ya.out * t.width) + m)) nan ys (ya.out * t.width)
+      (xa : Axis) (x : Point) (i : ℕ) (ys : List Float) → x ≡ point_at s.order mode xa i → ys ≡ tabulate (ya.out * t.width) (plane_value mode s t x ya) →
+      Filled (λ (m : ℕ). volume_value mode s t xa ya (i * (ya.out * t.width) + m)) nan ys (ya.out * t.width)
   plane_filled xa x i ys p e m h =
-      ap (λ (l : List Float). get_or l m nan) e ∙ get_d_tabulate (ya.out * t.width) (plane_value order mode xs plane row t x ya) nan m h
-      ∙ (λ s. plane_value order mode xs plane row t (p s) ya m)
-      ∙ (λ s. plane_value order mode xs plane row t (point_at order mode xa (sym (digits_div i h) s)) ya (sym (digits_mod i h) s))
+      ap (λ (l : List Float). get_or l m nan) e ∙ get_d_tabulate (ya.out * t.width) (plane_value mode s t x ya) nan m h
+      ∙ (λ q. plane_value mode s t (p q) ya m)
+      ∙ (λ q. plane_value mode s t (point_at s.order mode xa (sym (digits_div i h) q)) ya (sym (digits_mod i h) q))
 
 -- ---- with the table of the last axis, the volume is what document 01 says
 pub by_table :
-    (order : ℕ) (mode : BorderMode) (xa ya za : Axis) (xs : List Float) (t : Table) → order ≤ 5 → 1 ≤ za.out → t.width ≡ za.out → Tabled order mode za t za.out →
-    tabulate (xa.out * (ya.out * t.width)) (volume_value order mode xs (ya.len * za.len) za.len t xa ya) ≡ values order mode xa ya za xs
+    (mode : BorderMode) (s : Source) (t : Table) (xa ya za : Axis) → 1 ≤ za.out → s.plane ≡ ya.len * za.len → s.row ≡ za.len → t.width ≡ za.out → Tabled s.order mode za t za.out →
+    tabulate (xa.out * (ya.out * t.width)) (volume_value mode s t xa ya) ≡ values s.order mode xa ya za s.numbers.now
 unfolding values voxel_at computed
-by_table order mode xa ya za xs t o r w q =
+by_table mode s t xa ya za r p f w q =
+    let o : s.order ≤ 5 = s.order_bound in
+    let order = s.order in
+    let xs = s.numbers.now in
     let size = ya.out * za.out in
-    (λ i. tabulate (xa.out * (ya.out * w i)) (λ m. row_value order mode xs (ya.len * za.len) za.len t (point_at order mode xa (m / (ya.out * w i))) (point_at order mode ya (m % (ya.out * w i) / w i)) (m % (ya.out * w i) % w i)))
+    (λ i. tabulate (xa.out * (ya.out * w i)) (λ m.
+    let x = point_at order mode xa (m / (ya.out * w i)) in
+    let y = point_at order mode ya (m % (ya.out * w i) / w i) in
+    let k = m % (ya.out * w i) % w i in
+    cond (is_kept x.mark && is_kept y.mark && get_or t.kept k false) (computed order xs (p i) (f i) (tap_of x) (tap_of y) (column t k)) (drop_value mode)))
     ∙ tabulate_same (xa.out * size) _ _ (λ m _.
     let x = tap_of (point_at order mode xa (x_of size m)) in
     let y = tap_of (point_at order mode ya (y_of size za.out m)) in

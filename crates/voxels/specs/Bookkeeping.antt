@@ -7,10 +7,11 @@ use Rattle.border.specs.declared.BorderMode.{BorderMode}
 use Rattle.axis.specs.declared.coordinate.Axis.{Axis}
 use Rattle.axis.specs.declared.point.Point.{Point}
 use Rattle.axis.specs.Point.{is_kept, point_at}
+use Rattle.voxels.specs.declared.source.Source.{Source}
 use Rattle.voxels.specs.declared.sum.Four.{Four}
 use Rattle.voxels.specs.declared.table.Table.{Table}
 use Rattle.coverage.specs.Coverage.{kept_at, drop_value}
-use Rattle.voxels.specs.Sum.{Tap}
+use Rattle.voxels.specs.Sum.{Tap, sum_at}
 use Rattle.voxels.specs.Voxel.{tap_of, computed}
 
 -- ---- the neighbours of the last axis: a column of `longest` places for each of six, and room for the last block of the last column
@@ -24,6 +25,11 @@ column t o = record { at = λ k. get_or t.at (k * longest + o) 0; weight = λ k.
 -- the first n neighbours name stretches of `size` places that lie within `count`
 abbrev pub Planes : List ℕ → ℕ → ℕ → ℕ → Type 0
 Planes at n size count = (k : ℕ) → k < n → (get_or at k 0 + 1) * size ≤ count
+
+-- the records x and y name planes of the source, and rows of a plane
+pub record InSource (s : Source) (x y : Point) : Type 0 where
+  pub planes : Planes x.at (s.order + 1) s.plane (length s.numbers.now)
+  pub rows : Planes y.at (s.order + 1) s.row s.plane
 
 -- each place of the table names a place of the row
 abbrev pub Inside : List ℕ → ℕ → Type 0
@@ -60,6 +66,13 @@ pub record Column {A : Type 0} (d : A) (i : ℕ) (c l₀ l : List A) (n : ℕ) :
   pub rest : (m : ℕ) → ((k : ℕ) → k < n → m ≡ k * longest + i → ⊥) → get_or l m d ≡ get_or l₀ m d
 
 -- ---- the values
+-- what is computed from a source; and the sum, where its order is above 0
+abbrev pub computed_of : Source → Tap → Tap → Tap → Float
+computed_of s x y z = computed s.order s.numbers.now s.plane s.row x y z
+
+abbrev pub sum_of : Source → Tap → Tap → Tap → Float
+sum_of s x y z = sum_at s.numbers.now s.plane s.row (s.order + 1) x y z
+
 -- a row with the value of place k, if it has that place; and of the four from o on
 abbrev pub with_voxel : List Bool → Float → List Float → ℕ → Float → List Float
 with_voxel flags dropped l k value = set l k (cond (get_or flags k false) value dropped)
@@ -70,15 +83,15 @@ with_four flags dropped l o v =
     put (put (put (put l o v.a) (o + 1) v.b) (o + 2) v.c) (o + 3) v.d
 
 -- place k of a row at the records x and y
-abbrev pub row_value : ℕ → BorderMode → List Float → ℕ → ℕ → Table → Point → Point → ℕ → Float
-row_value order mode xs plane row t x y k = cond (is_kept x.mark && is_kept y.mark && get_or t.kept k false) (computed order xs plane row (tap_of x) (tap_of y) (column t k)) (drop_value mode)
+abbrev pub row_value : BorderMode → Source → Table → Point → Point → ℕ → Float
+row_value mode s t x y k = cond (is_kept x.mark && is_kept y.mark && get_or t.kept k false) (computed_of s (tap_of x) (tap_of y) (column t k)) (drop_value mode)
 
 -- place m of a plane at the record x
-abbrev pub plane_value : ℕ → BorderMode → List Float → ℕ → ℕ → Table → Point → Axis → ℕ → Float
-plane_value order mode xs plane row t x ya m = row_value order mode xs plane row t x (point_at order mode ya (m / t.width)) (m % t.width)
+abbrev pub plane_value : BorderMode → Source → Table → Point → Axis → ℕ → Float
+plane_value mode s t x ya m = row_value mode s t x (point_at s.order mode ya (m / t.width)) (m % t.width)
 
 -- place m of the volume
-abbrev pub volume_value : ℕ → BorderMode → List Float → ℕ → ℕ → Table → Axis → Axis → ℕ → Float
-volume_value order mode xs plane row t xa ya m =
+abbrev pub volume_value : BorderMode → Source → Table → Axis → Axis → ℕ → Float
+volume_value mode s t xa ya m =
     let size = ya.out * t.width in
-    plane_value order mode xs plane row t (point_at order mode xa (m / size)) ya (m % size)
+    plane_value mode s t (point_at s.order mode xa (m / size)) ya (m % size)

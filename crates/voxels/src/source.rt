@@ -8,6 +8,7 @@ pub struct Source<'a> {
     pub plane: usize,
     pub row: usize,
     pub order: usize,
+    ghost order_bound: { order ≤ 5 },
 }
 
 impl<'a> Source<'a> {

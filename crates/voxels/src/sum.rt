@@ -6,7 +6,7 @@ ghost use Rattle.limits.specs.Limits.{longest};
 ghost use Rattle.exact.specs.Rounded.{◌⊗◌};
 ghost use Rattle.voxels.specs.Sum.{term, sum_x, sum_y, sum_at};
 ghost use Rattle.voxels.specs.Voxel.{tap_of};
-ghost use Rattle.voxels.specs.Bookkeeping.{column, Planes, Inside, Each, lane, at_lane};
+ghost use Rattle.voxels.specs.Bookkeeping.{column, InSource, Planes, Inside, Each, sum_of, lane, at_lane};
 
 use crate::source::Source;
 use crate::table::Table;
@@ -62,7 +62,6 @@ fn step(p: &[f64], w: f64, v: Four<f64>, at: Four<usize>, t: Four<f64>) -> Four<
 }
 
 fn add_x(source: &Source, x: &Point, at: Four<usize>, v: Four<f64>, sum: Four<f64>) -> Four<f64>
-    requires order_bound { source.now.order ≤ 5 }
     requires places { Each (λ i. i < source.now.plane) at }
     requires planes { Planes x.now.at (source.now.order + 1) source.now.plane (length source.now.numbers.now) }
     ensures { (j : ℕ) → at_lane result j ≡ sum_x source.now.numbers.now source.now.plane (tap_of x.now) (at_lane at j) (at_lane v j) (at_lane sum j) (source.now.order + 1) }
@@ -82,10 +81,8 @@ fn add_y(
     w: Four<f64>,
     sum: Four<f64>,
 ) -> Four<f64>
-    requires order_bound { source.now.order ≤ 5 }
     requires places { Each (λ i. i < source.now.row) z }
-    requires planes { Planes x.now.at (source.now.order + 1) source.now.plane (length source.now.numbers.now) }
-    requires rows { Planes y.now.at (source.now.order + 1) source.now.row source.now.plane }
+    requires in_source { InSource source.now x.now y.now }
     ensures { (j : ℕ) → at_lane result j ≡ sum_y source.now.numbers.now source.now.plane source.now.row (source.now.order + 1) (tap_of x.now) (tap_of y.now) (at_lane z j) (at_lane w j) (at_lane sum j) (source.now.order + 1) }
 {
     let mut t = sum;
@@ -100,12 +97,10 @@ fn add_y(
 // The sums of the voxels at places o to o + 3 of a row. Each place of the table names one of the row,
 // so a sum whose place is dropped, or past the end of the row, is of no use but does no harm.
 pub(crate) fn sum_four(source: &Source, table: &Table, x: &Point, y: &Point, o: usize) -> Four<f64>
-    requires order_bound { source.now.order ≤ 5 }
     requires o_lt_longest { o < longest }
-    requires planes { Planes x.now.at (source.now.order + 1) source.now.plane (length source.now.numbers.now) }
-    requires rows { Planes y.now.at (source.now.order + 1) source.now.row source.now.plane }
+    requires in_source { InSource source.now x.now y.now }
     requires inside { Inside table.now.at source.now.row }
-    ensures { (j : ℕ) → at_lane result j ≡ sum_at source.now.numbers.now source.now.plane source.now.row (source.now.order + 1) (tap_of x.now) (tap_of y.now) (column table.now (o + lane j)) }
+    ensures { (j : ℕ) → at_lane result j ≡ sum_of source.now (tap_of x.now) (tap_of y.now) (column table.now (o + lane j)) }
 {
     let mut t = Four {
         a: 0.0,

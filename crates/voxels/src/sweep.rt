@@ -7,7 +7,7 @@ ghost use Rattle.lists.specs.Tabulate.{tabulate};
 ghost use Rattle.axis.specs.Bookkeeping.{Reaches};
 ghost use Rattle.voxels.specs.Sum.{sum_at};
 ghost use Rattle.voxels.specs.Voxel.{tap_of, computed, values};
-ghost use Rattle.voxels.specs.Bookkeeping.{column, Planes, Inside, with_voxel, with_four, row_value, plane_value, volume_value};
+ghost use Rattle.voxels.specs.Bookkeeping.{column, InSource, Planes, Inside, computed_of, sum_of, with_voxel, with_four, row_value, plane_value, volume_value};
 
 use crate::source::Source;
 use crate::sum::{Four, sum_four};
@@ -58,12 +58,10 @@ fn put_four(out: &mut [f64], kept: &[bool], o: usize, t: Four<f64>, dropped: f64
 
 // Orders above 0, in blocks of four voxels.
 fn sum_row(out: &mut [f64], source: &Source, table: &Table, x: &Point, y: &Point, dropped: f64)
-    requires order_bound { source.now.order ≤ 5 }
     requires out_len { length out.old ≤ longest }
-    requires planes { Planes x.now.at (source.now.order + 1) source.now.plane (length source.now.numbers.now) }
-    requires rows { Planes y.now.at (source.now.order + 1) source.now.row source.now.plane }
+    requires in_source { InSource source.now x.now y.now }
     requires inside { Inside table.now.at source.now.row }
-    ensures { out.new ≡ tabulate (length out.old) (λ k. cond (get_or table.now.kept k false) (sum_at source.now.numbers.now source.now.plane source.now.row (source.now.order + 1) (tap_of x.now) (tap_of y.now) (column table.now k)) dropped) }
+    ensures { out.new ≡ tabulate (length out.old) (λ k. cond (get_or table.now.kept k false) (sum_of source.now (tap_of x.now) (tap_of y.now) (column table.now k)) dropped) }
 {
     for o in (0..out.len()).step_by(4) {
         put_four(
@@ -78,12 +76,10 @@ fn sum_row(out: &mut [f64], source: &Source, table: &Table, x: &Point, y: &Point
 
 // A row that axes 0 and 1 keep.
 fn kept_row(out: &mut [f64], source: &Source, table: &Table, x: &Point, y: &Point, dropped: f64)
-    requires order_bound { source.now.order ≤ 5 }
     requires out_len { length out.old ≤ longest }
-    requires planes { Planes x.now.at (source.now.order + 1) source.now.plane (length source.now.numbers.now) }
-    requires rows { Planes y.now.at (source.now.order + 1) source.now.row source.now.plane }
+    requires in_source { InSource source.now x.now y.now }
     requires inside { Inside table.now.at source.now.row }
-    ensures { out.new ≡ tabulate (length out.old) (λ k. cond (get_or table.now.kept k false) (computed source.now.order source.now.numbers.now source.now.plane source.now.row (tap_of x.now) (tap_of y.now) (column table.now k)) dropped) }
+    ensures { out.new ≡ tabulate (length out.old) (λ k. cond (get_or table.now.kept k false) (computed_of source.now (tap_of x.now) (tap_of y.now) (column table.now k)) dropped) }
 {
     if source.order == 0 {
         copy_row(
@@ -107,12 +103,10 @@ fn value_row(
     x: &Point,
     y: &Point,
 )
-    requires order_bound { source.now.order ≤ 5 }
     requires out_len { (length out.old ≡ table.now.width) × (table.now.width ≤ longest) }
-    requires planes { Planes x.now.at (source.now.order + 1) source.now.plane (length source.now.numbers.now) }
-    requires rows { Planes y.now.at (source.now.order + 1) source.now.row source.now.plane }
+    requires in_source { InSource source.now x.now y.now }
     requires inside { Inside table.now.at source.now.row }
-    ensures { out.new ≡ tabulate table.now.width (row_value source.now.order mode source.now.numbers.now source.now.plane source.now.row table.now x.now y.now) }
+    ensures { out.new ≡ tabulate table.now.width (row_value mode source.now table.now x.now y.now) }
 {
     let dropped = drop_value(mode);
     if x.mark.is_kept() && y.mark.is_kept() {
@@ -131,13 +125,12 @@ fn value_plane(
     x: &Point,
     ya: Axis,
 )
-    requires order_bound { source.now.order ≤ 5 }
     requires out_len { (length out.old ≡ ya.out * table.now.width) × (table.now.width ≤ longest) }
     requires planes { Planes x.now.at (source.now.order + 1) source.now.plane (length source.now.numbers.now) }
     requires plane_value { source.now.plane ≡ ya.len * source.now.row }
     requires inside { Inside table.now.at source.now.row }
     requires reaches { Reaches source.now.order ya }
-    ensures { out.new ≡ tabulate (ya.out * table.now.width) (plane_value source.now.order mode source.now.numbers.now source.now.plane source.now.row table.now x.now ya) }
+    ensures { out.new ≡ tabulate (ya.out * table.now.width) (plane_value mode source.now table.now x.now ya) }
 {
     let width = table.width;
     for j in 0..ya.out {
@@ -162,13 +155,12 @@ fn value_planes(
     xa: Axis,
     ya: Axis,
 )
-    requires order_bound { source.now.order ≤ 5 }
     requires out_len { (length out.old ≡ xa.out * (ya.out * table.now.width)) × (table.now.width ≤ longest) }
     requires data_len { length source.now.numbers.now ≡ xa.len * source.now.plane }
     requires plane_value { source.now.plane ≡ ya.len * source.now.row }
     requires inside { Inside table.now.at source.now.row }
     requires reaches { Reaches source.now.order xa × Reaches source.now.order ya }
-    ensures { out.new ≡ tabulate (xa.out * (ya.out * table.now.width)) (volume_value source.now.order mode source.now.numbers.now source.now.plane source.now.row table.now xa ya) }
+    ensures { out.new ≡ tabulate (xa.out * (ya.out * table.now.width)) (volume_value mode source.now table.now xa ya) }
 {
     let size = ya.out * table.width;
     for i in 0..xa.out {

@@ -12,7 +12,7 @@ use Rattle.voxels.proofs.sum.add_y.Goals as goal
 
 -- row k of the plane has each place
 inside : (c : In-loop-k) (j : ℕ) → get_or c.args.y.now.at c.loop-k.k 0 * c.args.source.now.row + at_lane c.args.z j < c.args.source.now.plane
-inside c j = within _ _ _ _ (lane_of (λ (i : ℕ). i < c.args.source.now.row) c.args.z c.requires.places j) (c.requires.rows c.loop-k.k (omega arith))
+inside c j = within _ _ _ _ (lane_of (λ (i : ℕ). i < c.args.source.now.row) c.args.z c.requires.places j) (c.requires.in_source.rows c.loop-k.k (omega arith))
 
 pub loop-k-init : goal.loop-k-init
 unfolding sum_y

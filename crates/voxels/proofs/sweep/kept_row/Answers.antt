@@ -17,12 +17,12 @@ use Rattle.voxels.proofs.sweep.kept_row.Goals as goal
 
 -- at order 0: a place of the row lies in the plane
 inside : (s : Start) (k : ℕ) → k < length s.args.table.now.at → get_or s.args.y.now.at 0 0 * s.args.source.now.row + get_or s.args.table.now.at k 0 < s.args.source.now.plane
-inside s k h = within _ _ _ _ (s.requires.inside k h) (s.requires.rows 0 (omega arith))
+inside s k h = within _ _ _ _ (s.requires.inside k h) (s.requires.in_source.rows 0 (omega arith))
 
 pub plane_at-requires : goal.plane_at-requires
 plane_at-requires c =
     let h = inside (goal.at.plane_at-requires c).Start 0 (omega arith) in
-    (omega (arith, h), c.requires.planes 0 (omega arith))
+    (omega (arith, h), c.requires.in_source.planes 0 (omega arith))
 
 pub returns-then-source-eq0 : goal.returns-then-source-eq0
 returns-then-source-eq0 c =

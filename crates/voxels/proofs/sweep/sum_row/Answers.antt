@@ -1,5 +1,5 @@
 -- `voxels::sweep::sum_row` meets its contract: the values so far are those of the places passed, those that there are.
-use Prim.Native.Nat.{ℕ, ◌+◌}
+use Prim.Native.Nat.{ℕ}
 use native.Mathlib.Nat.{not-suc-le-zero}
 use native.Mathlib.Omega.{arith}
 use mathlib.Core.Path.{refl}
@@ -7,9 +7,8 @@ use mathlib.Core.Bool.{false, cond}
 use lib.Ieee.{Float, nan}
 use lib.ListN.{get_or}
 use Rattle.lists.proofs.Tabulated.{is_tabulate}
-use Rattle.voxels.specs.Sum.{sum_at}
 use Rattle.voxels.specs.Voxel.{tap_of}
-use Rattle.voxels.specs.Bookkeeping.{column}
+use Rattle.voxels.specs.Bookkeeping.{column, sum_of}
 use Rattle.voxels.proofs.Sweeping.{put_block}
 use Rattle.voxels.proofs.sweep.sum_row.Goals.{Start}
 use Rattle.voxels.proofs.sweep.sum_row.Goals as goal
@@ -18,8 +17,7 @@ module _ (s : Start) where
   abbrev sum : ℕ → Float
   sum m =
       let a = s.args in
-      let source = a.source.now in
-      sum_at source.numbers.now source.plane source.row (source.order + 1) (tap_of a.x.now) (tap_of a.y.now) (column a.table.now m)
+      sum_of a.source.now (tap_of a.x.now) (tap_of a.y.now) (column a.table.now m)
 
   abbrev value : ℕ → Float
   value m = cond (get_or s.args.table.now.kept m false) (sum m) s.args.dropped

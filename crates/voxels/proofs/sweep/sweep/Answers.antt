@@ -1,5 +1,7 @@
 -- `voxels::sweep::sweep` meets its contract.
+use Prim.Native.Nat.{◌*◌}
 use mathlib.Core.Path.{refl, ◌∙◌}
+use Rattle.voxels.specs.declared.source.Source.{Source}
 use Rattle.voxels.proofs.Tables.{table_start}
 use Rattle.voxels.proofs.Sweeping.{by_table}
 use Rattle.voxels.proofs.sweep.sweep.Goals as goal
@@ -11,4 +13,5 @@ pub returns : goal.returns
 returns c =
     let a = c.args in
     let p = c.requires in
-    c.value_planes.ensures ∙ by_table a.order a.mode a.xa a.ya a.za a.«data».now c.fill.new.self p.order_bound p.len_le_longest_padded.1.1 c.fill.ensures.width c.fill.ensures.tabled
+    let source : Source = record { numbers = a.«data»; plane = a.ya.len * a.za.len; row = a.za.len; order = a.order; order_bound = p.order_bound } in
+    c.value_planes.ensures ∙ by_table a.mode source c.fill.new.self a.xa a.ya a.za p.len_le_longest_padded.1.1 refl refl c.fill.ensures.width c.fill.ensures.tabled

@@ -6,4 +6,4 @@ use Rattle.voxels.specs.Bookkeeping.{plane_value}
 use Rattle.voxels.proofs.sweep.value_plane.Given as goal
 
 abbrev pub invariant-loop-j : goal.invariant-loop-j
-invariant-loop-j l = Written (plane_value l.source.order l.mode l.source.numbers.now l.source.plane l.source.row l.table l.x l.ya) nan l.width (l.ya.out * l.width) l.out l.j
+invariant-loop-j l = Written (plane_value l.mode l.source l.table l.x l.ya) nan l.width (l.ya.out * l.width) l.out l.j

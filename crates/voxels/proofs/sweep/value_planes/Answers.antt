@@ -17,9 +17,8 @@ pub loop-i-preserved : goal.loop-i-preserved
 loop-i-preserved c =
     let a = c.args in
     let l = c.loop-i in
-    let s = a.source.now in
     let call = c.value_plane in
-    next_written _ nan _ a.xa.out l.out call.new.out l.i (omega arith) l.invariant call.auto.out (plane_filled s.order a.mode s.numbers.now s.plane s.row a.table.now a.ya a.xa c.point_at-x.result l.i call.new.out c.point_at-x.ensures call.ensures)
+    next_written _ nan _ a.xa.out l.out call.new.out l.i (omega arith) l.invariant call.auto.out (plane_filled a.mode a.source.now a.table.now a.ya a.xa c.point_at-x.result l.i call.new.out c.point_at-x.ensures call.ensures)
 
 pub returns : goal.returns
 returns c = all_written _ nan _ c.args.xa.out c.loop-i.out c.loop-i.i (omega arith) c.loop-i.invariant

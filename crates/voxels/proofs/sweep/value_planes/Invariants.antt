@@ -6,4 +6,4 @@ use Rattle.voxels.specs.Bookkeeping.{volume_value}
 use Rattle.voxels.proofs.sweep.value_planes.Given as goal
 
 abbrev pub invariant-loop-i : goal.invariant-loop-i
-invariant-loop-i l = Written (volume_value l.source.order l.mode l.source.numbers.now l.source.plane l.source.row l.table l.xa l.ya) nan l.size (l.xa.out * l.size) l.out l.i
+invariant-loop-i l = Written (volume_value l.mode l.source l.table l.xa l.ya) nan l.size (l.xa.out * l.size) l.out l.i
