@@ -1,7 +1,5 @@
 -- `one_voxel::sum::add_x` meets its contract: the sum of the first k planes.
-use Prim.Native.Nat.{◌+◌}
-use mathlib.Core.Path.{◌≡◌, refl}
-use native.Mathlib.Omega.{arith}
+use mathlib.Core.Path.{refl}
 use Rattle.voxels.specs.Sum.{sum_x}
 use Rattle.voxels.proofs.Sums.{turn_x}
 use Rattle.one_voxel.proofs.sum.add_x.Goals as goal

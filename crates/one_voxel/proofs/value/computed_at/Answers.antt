@@ -1,10 +1,6 @@
 -- `one_voxel::value::computed_at` meets its contract: at order 0 the one voxel is copied, else the sum is taken.
-use Prim.Native.Nat.{ℕ, ◌+◌, ◌*◌, ◌<◌}
 use mathlib.Core.Path.{refl, ◌∙◌}
-use native.Mathlib.Omega.{arith}
-use lib.ListN.{length, get_or}
 use Rattle.voxels.specs.Voxel.{tap_of}
-use Rattle.voxels.proofs.Sums.{within}
 use Rattle.voxels.proofs.Sweeping.{computed_copy, computed-sum}
 use Rattle.one_voxel.proofs.value.computed_at.Goals.{Start}
 use Rattle.one_voxel.proofs.value.computed_at.Goals as goal

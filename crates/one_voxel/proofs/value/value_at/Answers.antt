@@ -1,9 +1,7 @@
 -- `one_voxel::value::value_at` meets its contract.
-use Prim.Native.Nat.{◌*◌, ◌+◌}
 use mathlib.Core.Path.{refl, sym, ap, ◌∙◌}
-use native.Mathlib.Omega.{arith}
-use native.Mathlib.Nat.{mul-one, mul-le-mul}
-use lib.ListN.{length, get_or}
+use native.Mathlib.Nat.{mul-one}
+use lib.ListN.{get_or}
 use Rattle.axis.specs.declared.point.Point.{Point}
 use Rattle.voxels.proofs.Sweeping.{point_planes}
 use Rattle.one_voxel.proofs.Voxels.{value_kept, value_dropped}
@@ -13,9 +11,10 @@ pub computed_at-requires : goal.computed_at-requires
 computed_at-requires c =
     let a = c.args in
     let reached = c.requires.reached in record {
-      order_bound = reached.0.upto;
-      planes = point_planes a.order a.mode a.a.x _ _ _ _ _ reached.0 (ap (λ (t : Point). t.at) c.point_at-x.ensures) c.requires.data_len;
-      rows = point_planes a.order a.mode a.a.y _ _ _ _ _ reached.1.0 (ap (λ (t : Point). t.at) c.point_at-y.ensures) refl;
+      in_source = record {
+        planes = point_planes a.order a.mode a.a.x _ _ _ _ _ reached.0 (ap (λ (t : Point). t.at) c.point_at-x.ensures) c.requires.data_len;
+        rows = point_planes a.order a.mode a.a.y _ _ _ _ _ reached.1.0 (ap (λ (t : Point). t.at) c.point_at-y.ensures) refl;
+      };
       places = point_planes a.order a.mode a.a.z _ _ _ _ _ reached.1.1 (ap (λ (t : Point). t.at) c.point_at-z.ensures) (sym (mul-one a.a.z.len));
     }
 
