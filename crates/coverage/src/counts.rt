@@ -22,8 +22,8 @@ impl Counts {
         }
     }
 
-    // The counts with one code more. 1 or 0 is added without a branch, so that codes may change from
-    // voxel to voxel at no cost.
+    // The counts with one code more, a byte of a lent coverage. 1 or 0 is added without a branch, so
+    // that codes may change from voxel to voxel at no cost.
     pub(crate) fn with(mut self, code: u8) -> Counts
         requires { total self < 18446744073709551615 }
         ensures { result ≡ with_code self code }

@@ -74,7 +74,7 @@ fn join(c: Code, d: Code) -> Code
     }
 }
 
-// The code of one voxel: its byte, as the one of a volume's voxel.
+// The code of one voxel, as the byte that its caller is lent; `Axes` is declared above this crate.
 pub fn own_code(
     xa: Axis,
     ya: Axis,

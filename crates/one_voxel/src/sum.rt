@@ -1,9 +1,9 @@
 // The sum of one voxel, in document 01's order: z outermost, x innermost. Those of four voxels at once
 // (crate voxels) have the same three loops; one of any number of voxels would be no plainer than both.
-ghost use Rattle.std.specs.Prelude.{◌≡◌, ◌+◌, ◌<◌, ◌≤◌, length};
-ghost use Rattle.voxels.specs.Sum.{sum_x, sum_y, sum_at};
+ghost use Rattle.std.specs.Prelude.{◌≡◌, ◌+◌, ◌<◌, length};
+ghost use Rattle.voxels.specs.Sum.{sum_x, sum_y};
 ghost use Rattle.voxels.specs.Voxel.{tap_of};
-ghost use Rattle.voxels.specs.Bookkeeping.{InSource, Planes, computed_of, sum_of};
+ghost use Rattle.voxels.specs.Bookkeeping.{InSource, Planes, sum_of};
 
 use axis::point::Point;
 use voxels::source::Source;

@@ -5,8 +5,8 @@ ghost use Rattle.axis.specs.Point.{is_kept};
 ghost use Rattle.axis.specs.Bookkeeping.{Reached};
 ghost use Rattle.request.specs.Sizes.{needed};
 ghost use Rattle.refusal.specs.Bookkeeping.{Admitted};
-ghost use Rattle.voxels.specs.Voxel.{tap_of, computed, voxel_at};
-ghost use Rattle.voxels.specs.Bookkeeping.{InSource, Planes, computed_of, sum_of};
+ghost use Rattle.voxels.specs.Voxel.{tap_of, voxel_at};
+ghost use Rattle.voxels.specs.Bookkeeping.{InSource, Planes, computed_of};
 ghost use Rattle.one_voxel.specs.Call.{lent_source};
 ghost use Rattle.one_voxel.specs.Bookkeeping.{Inside};
 

@@ -1,10 +1,9 @@
 // The sums of four voxels that follow each other on the last axis: each has a sum of its own, so
 // that their chains of additions do not wait for each other.
-ghost use Rattle.std.specs.Prelude.{◌≡◌, ℕ, ◌+◌, ◌<◌, ◌≤◌, length, get_or};
+ghost use Rattle.std.specs.Prelude.{◌≡◌, ℕ, ◌+◌, ◌<◌, length, get_or};
 ghost use Rattle.std.specs.Float.{nan};
 ghost use Rattle.limits.specs.Limits.{longest};
-ghost use Rattle.exact.specs.Rounded.{◌⊗◌};
-ghost use Rattle.voxels.specs.Sum.{term, sum_x, sum_y, sum_at};
+ghost use Rattle.voxels.specs.Sum.{term, sum_x, sum_y};
 ghost use Rattle.voxels.specs.Voxel.{tap_of};
 ghost use Rattle.voxels.specs.Bookkeeping.{column, InSource, Planes, Inside, Each, sum_of, lane, at_lane};
 
@@ -13,7 +12,7 @@ use crate::table::Table;
 use axis::point::Point;
 use limits::LONGEST;
 
-// A value for each of four voxels.
+// A value for each of four voxels, by name: a generic struct holds no array of its parameter.
 #[derive(Clone, Copy)]
 pub struct Four<T> {
     pub a: T,

@@ -5,8 +5,7 @@ ghost use Rattle.std.specs.Float.{nan};
 ghost use Rattle.limits.specs.Limits.{longest, longest_padded};
 ghost use Rattle.lists.specs.Tabulate.{tabulate};
 ghost use Rattle.axis.specs.Bookkeeping.{Reaches};
-ghost use Rattle.voxels.specs.Sum.{sum_at};
-ghost use Rattle.voxels.specs.Voxel.{tap_of, computed, values};
+ghost use Rattle.voxels.specs.Voxel.{tap_of, values};
 ghost use Rattle.voxels.specs.Bookkeeping.{column, InSource, Planes, Inside, computed_of, sum_of, with_voxel, with_four, row_value, plane_value, volume_value};
 
 use crate::source::Source;
@@ -176,7 +175,7 @@ fn value_planes(
     }
 }
 
-// The whole volume, from the voxels or coefficients of the source.
+// The whole volume, from the voxels or coefficients of the source; `Axes` is declared above this crate.
 pub fn sweep(
     out: &mut [f64],
     data: &[f64],

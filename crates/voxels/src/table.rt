@@ -1,6 +1,6 @@
 // The table of the last axis: the neighbours and weights of every output index, and which of the
 // indices are kept.
-ghost use Rattle.std.specs.Prelude.{◌≡◌, ◌+◌, ◌<◌, ◌≤◌, length};
+ghost use Rattle.std.specs.Prelude.{◌≡◌, ◌<◌, length};
 ghost use Rattle.limits.specs.Limits.{longest};
 ghost use Rattle.axis.specs.Bookkeeping.{Reaches};
 ghost use Rattle.voxels.specs.Bookkeeping.{table_size, Tabled, Column};
@@ -32,7 +32,7 @@ fn put_column<T: Copy>(table: &mut [T], column: &[T; 6], i: usize)
 }
 
 impl Table {
-    // The columns of all output indices, and their flags.
+    // The columns of all output indices, and their flags. A table by value would be copied.
     pub(crate) fn fill(&mut self, a: Axis, order: usize, mode: BorderMode)
         requires reaches { Reaches order a }
         requires start { Tabled order mode a self.old 0 }
