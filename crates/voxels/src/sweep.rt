@@ -131,12 +131,13 @@ fn value_plane(
     requires reaches { Reaches source.now.order ya }
     ensures { out.new ≡ tabulate (ya.out * table.now.width) (plane_value mode source.now table.now x.now ya) }
 {
+    let source = *source; // so that its order is known not to change over the rows
     let width = table.width;
     for j in 0..ya.out {
         let y = point_at(ya, j, source.order, mode);
         value_row(
             &mut out[j * width..(j + 1) * width],
-            source,
+            &source,
             table,
             mode,
             x,
