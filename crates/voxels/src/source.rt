@@ -17,6 +17,8 @@ impl<'a> Source<'a> {
         ensures places { result.now ≡ take self.now.plane (drop (i * self.now.plane) self.now.numbers.now) }
         ensures len { length result.now ≡ self.now.plane }
     {
-        &self.numbers[i * self.plane..(i + 1) * self.plane]
+        let data = self.numbers;
+        let plane = self.plane;
+        &data[i * plane..(i + 1) * plane]
     }
 }
