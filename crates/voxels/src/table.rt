@@ -13,7 +13,8 @@ use limits::LONGEST;
 // A column of LONGEST places for each of six neighbours, and room for the last block of the last one.
 pub(crate) const TABLE: usize = 6 * LONGEST + 4;
 
-// Those of neighbour k stand from place k * LONGEST on, `width` of them.
+// Those of neighbour k stand from place k * LONGEST on, `width` of them: numbers apart from places, so
+// that four that follow each other are read at once.
 #[derive(Drop)]
 pub struct Table {
     pub width: usize,
