@@ -1,5 +1,5 @@
 -- The counts of a coverage, one code more, and their sum.
-use Prim.Native.Nat.{ℕ, ◌+◌, ◌≤◌, ◌<◌}
+use Prim.Native.Nat.{ℕ, ◌+◌, ◌<◌}
 use native.Mathlib.Nat.{add-zero}
 use native.Mathlib.Numerals.{add-one}
 use native.Mathlib.Omega.{arith}
@@ -7,17 +7,14 @@ use mathlib.Core.Path.{◌≡◌, refl, sym, ap, ◌∙◌}
 use mathlib.Core.Bool.{Bool, true, false, cond}
 use mathlib.Core.List.{List, [], ◌∷◌, ◌++◌}
 use lib.Dec.{eqb, ltb}
+use mir.Val.{bool_byte}
 use lib.ListN.{length, get_or, take}
 use lib.Seq.{take-suc}
 use borrow.Author.Tests.{ne_eqb, eqb-true, eqb-false, ltb-true, ltb-false}
 use Rattle.coverage.specs.declared.counts.Counts.{Counts}
 use Rattle.coverage.specs.Coverage.{none, with_code, counts_from, counts_of, total}
 
--- ---- one code more: what a test adds, and how the tests of the code find the count
-pub once_most : (yes : Bool) {n : ℕ} → n ≡ cond yes 1 0 → n ≤ 1
-once_most true e = omega (arith, e)
-once_most false e = omega (arith, e)
-
+-- ---- one code more: how the tests of the code find the count
 -- the counts with a code that is not 0
 abbrev others : Counts → Bool → Bool → Counts
 others c t u =
@@ -26,7 +23,7 @@ others c t u =
     (record { computed = c.computed; filled = c.filled; defaulted = c.defaulted; folded = c.folded + 1 }))
 
 pub with_others :
-    (c : Counts) (code : ℕ) {one two more : ℕ} → (code ≡ 0 → ⊥) → one ≡ cond (eqb code 1) 1 0 → two ≡ cond (eqb code 2) 1 0 → more ≡ cond (ltb 2 code) 1 0 →
+    (c : Counts) (code : ℕ) {one two more : ℕ} → (code ≡ 0 → ⊥) → one ≡ bool_byte (eqb code 1) → two ≡ bool_byte (eqb code 2) → more ≡ bool_byte (ltb 2 code) →
     record { computed = c.computed; filled = c.filled + one; defaulted = c.defaulted + two; folded = c.folded + more } ≡ with_code c code
 unfolding with_code
 with_others c code some p q r =
@@ -35,7 +32,7 @@ with_others c code some p q r =
     ∙ sym (ap (λ (t : Bool). cond t (record { computed = c.computed + 1; filled = c.filled; defaulted = c.defaulted; folded = c.folded }) (others c (eqb code 1) (eqb code 2))) (ne_eqb code 0 some))
   where
     go : (t u v : Bool) → eqb code 1 ≡ t → eqb code 2 ≡ u → ltb 2 code ≡ v
-        → record { computed = c.computed; filled = c.filled + cond t 1 0; defaulted = c.defaulted + cond u 1 0; folded = c.folded + cond v 1 0 } ≡ others c t u
+        → record { computed = c.computed; filled = c.filled + bool_byte t; defaulted = c.defaulted + bool_byte u; folded = c.folded + bool_byte v } ≡ others c t u
     go true false false e f h = λ t. record { computed = c.computed; filled = c.filled + 1; defaulted = add-zero c.defaulted t; folded = add-zero c.folded t }
     go false true false e f h = λ t. record { computed = c.computed; filled = add-zero c.filled t; defaulted = c.defaulted + 1; folded = add-zero c.folded t }
     go false false true e f h = λ t. record { computed = c.computed; filled = add-zero c.filled t; defaulted = add-zero c.defaulted t; folded = c.folded + 1 }

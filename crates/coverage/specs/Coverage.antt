@@ -7,16 +7,28 @@ use Rattle.border.specs.declared.BorderMode.TheVariants.{Constant, Mirror, Neare
 use Rattle.axis.specs.declared.coordinate.Axis.{Axis}
 use Rattle.axis.specs.Coordinate.{settled, kept}
 use Rattle.axis.specs.Folded.{folded_at}
+use Rattle.coverage.specs.declared.codes.Code.{Code}
+use Rattle.coverage.specs.declared.codes.Code.TheVariants.{Computed, Filled, Defaulted, Folded}
 use Rattle.coverage.specs.declared.counts.Counts.{Counts}
 
+-- a code as a number
+abbrev pub number_of_code : Code → ℕ
+number_of_code Computed = 0
+number_of_code Filled = 1
+number_of_code Defaulted = 2
+number_of_code Folded = 3
+
 -- what a voxel with a dropped axis bears: its code, and "the fill in Constant, else 0.0"
+abbrev pub dropped : BorderMode → Code
+dropped (Constant fill) = Filled
+dropped Mirror = Defaulted
+dropped Nearest = Defaulted
+dropped Reflect = Defaulted
+dropped Wrap = Defaulted
+dropped Replicate = Defaulted
+
 abbrev pub drop_code : BorderMode → ℕ
-drop_code (Constant fill) = 1
-drop_code Mirror = 2
-drop_code Nearest = 2
-drop_code Reflect = 2
-drop_code Wrap = 2
-drop_code Replicate = 2
+drop_code mode = number_of_code (dropped mode)
 
 abbrev pub drop_value : BorderMode → Float
 drop_value (Constant fill) = fill

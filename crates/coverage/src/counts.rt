@@ -1,5 +1,5 @@
 // How many voxels bear each code.
-ghost use Rattle.std.specs.Prelude.{◌≡◌, cond, ◌<◌, ◌≤◌, length};
+ghost use Rattle.std.specs.Prelude.{◌≡◌, ◌<◌};
 ghost use Rattle.coverage.specs.Coverage.{none, with_code, counts_of, total};
 
 #[derive(Clone, Copy)]
@@ -22,7 +22,8 @@ impl Counts {
         }
     }
 
-    // The counts with one code more.
+    // The counts with one code more, a byte of a lent coverage. 1 or 0 is added without a branch, so
+    // that codes may change from voxel to voxel at no cost.
     pub(crate) fn with(mut self, code: u8) -> Counts
         requires { total self < 18446744073709551615 }
         ensures { result ≡ with_code self code }
@@ -30,19 +31,12 @@ impl Counts {
         if code == 0 {
             self.computed += 1;
         } else {
-            self.filled += once(code == 1);
-            self.defaulted += once(code == 2);
-            self.folded += once(code > 2);
+            self.filled += usize::from(code == 1);
+            self.defaulted += usize::from(code == 2);
+            self.folded += usize::from(code > 2);
         }
         self
     }
-}
-
-// 1 or 0: added without a branch, so that codes may change from voxel to voxel at no cost.
-fn once(yes: bool) -> usize
-    ensures { result ≡ cond yes 1 0 }
-{
-    if yes { 1 } else { 0 }
 }
 
 // The counts of a coverage.
@@ -50,10 +44,8 @@ pub fn count_codes(coverage: &[u8]) -> Counts
     ensures { result ≡ counts_of coverage.now }
 {
     let mut counts = Counts::none();
-    let mut i = 0;
-    while i < coverage.len() {
-        counts = counts.with(coverage[i]);
-        i += 1;
+    for code in coverage {
+        counts = counts.with(*code);
     }
     counts
 }

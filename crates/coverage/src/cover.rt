@@ -1,27 +1,24 @@
 // The coverage of a volume: the code of every voxel. No voxel is read here.
-ghost use Rattle.std.specs.Prelude.{◌≡◌, ◌&&◌, ◌+◌, ◌*◌, ◌/◌, ◌<◌, ◌≤◌, length, get_or};
+ghost use Rattle.std.specs.Prelude.{◌≡◌, ◌*◌, ◌≤◌, length, get_or};
 ghost use Rattle.limits.specs.Limits.{longest};
 ghost use Rattle.lists.specs.Tabulate.{tabulate};
 ghost use Rattle.lists.specs.Bookkeeping.{Filled};
-ghost use Rattle.coverage.specs.Coverage.{drop_code, drop_value, kept_at, own_code, own_codes};
+ghost use Rattle.coverage.specs.Coverage.{number_of_code, dropped, drop_value, kept_at, own_code, own_codes};
 ghost use Rattle.coverage.specs.Bookkeeping.{axis_code, joined, code_in_plane, code_by_axes};
 
+use crate::codes::Code;
 use axis::coordinate::{Axis, settled_at};
 use axis::folded::is_folded;
 use border::BorderMode;
 use limits::LONGEST;
 
 // The code of a dropped voxel.
-pub fn drop_code(mode: BorderMode) -> u8
-    ensures { result ≡ drop_code mode }
+pub fn drop_code(mode: BorderMode) -> Code
+    ensures { result ≡ dropped mode }
 {
     match mode {
-        BorderMode::Constant(_) => 1,
-        BorderMode::Mirror => 2,
-        BorderMode::Nearest => 2,
-        BorderMode::Reflect => 2,
-        BorderMode::Wrap => 2,
-        BorderMode::Replicate => 2,
+        BorderMode::Constant(_) => Code::Filled,
+        _ => Code::Defaulted,
     }
 }
 
@@ -31,11 +28,7 @@ pub fn drop_value(mode: BorderMode) -> f64
 {
     match mode {
         BorderMode::Constant(fill) => fill,
-        BorderMode::Mirror => 0.0,
-        BorderMode::Nearest => 0.0,
-        BorderMode::Reflect => 0.0,
-        BorderMode::Wrap => 0.0,
-        BorderMode::Replicate => 0.0,
+        _ => 0.0,
     }
 }
 
@@ -45,53 +38,43 @@ fn is_kept(a: Axis, i: usize, mode: BorderMode) -> bool
     settled_at(a, i, mode) > -1.0
 }
 
-pub fn both(a: bool, b: bool) -> bool
-    ensures { result ≡ a && b }
-{
-    if a { b } else { false }
-}
-
 // What an axis says of its output index.
-fn axis_code(a: Axis, i: usize, order: usize, mode: BorderMode) -> u8
+fn axis_code(a: Axis, i: usize, order: usize, mode: BorderMode) -> Code
     requires { order ≤ 5 }
     ensures { result ≡ axis_code order mode a i }
 {
-    if is_kept(a, i, mode) {
-        if is_folded(a, i, order, mode) {
-            return 3;
-        }
-        return 0;
+    if !is_kept(a, i, mode) {
+        drop_code(mode)
+    } else if is_folded(a, i, order, mode) {
+        Code::Folded
+    } else {
+        Code::Computed
     }
-    drop_code(mode)
 }
 
 // And of all of them.
-fn axis_codes(codes: &mut [u8], a: Axis, order: usize, mode: BorderMode)
+fn axis_codes(codes: &mut [Code], a: Axis, order: usize, mode: BorderMode)
     requires { (order ≤ 5) × (a.out ≤ length codes.old) }
-    ensures { Filled (axis_code order mode a) 0 codes.new a.out }
+    ensures { Filled (axis_code order mode a) Code.Computed codes.new a.out }
 {
-    let n = a.out;
-    let mut i = 0;
-    while i < n {
+    for i in 0..a.out {
         codes[i] = axis_code(a, i, order, mode);
-        i += 1;
     }
 }
 
 // Dropped by one of two axes, else folded by one of them.
-fn join(c: u8, d: u8) -> u8
+fn join(c: Code, d: Code) -> Code
     ensures { result ≡ joined c d }
 {
-    if c == 0 {
-        return d;
+    match (c, d) {
+        (Code::Computed, _) => d,
+        (_, Code::Computed) => c,
+        (Code::Folded, _) => d,
+        _ => c,
     }
-    if d == 0 {
-        return c;
-    }
-    if c == 3 { d } else { c }
 }
 
-// The code of one voxel.
+// The code of one voxel, as the byte that its caller is lent; `Axes` is declared above this crate.
 pub fn own_code(
     xa: Axis,
     ya: Axis,
@@ -106,63 +89,39 @@ pub fn own_code(
     ensures { result ≡ own_code order mode xa ya za x y z }
 {
     let others = join(axis_code(xa, x, order, mode), axis_code(ya, y, order, mode));
-    join(others, axis_code(za, z, order, mode))
+    u8::from(join(others, axis_code(za, z, order, mode)))
 }
 
 // A row of which the other two axes say `others`.
-fn cover_row(row: &mut [u8], zs: &[u8], others: u8)
-    requires { length row.old ≤ length zs.now }
-    ensures { row.new ≡ tabulate (length row.old) (λ k. joined others (get_or zs.now k 0)) }
+fn cover_row(row: &mut [u8], others: Code, zs: &[Code])
+    requires { length row.old ≡ length zs.now }
+    ensures { row.new ≡ tabulate (length zs.now) (λ k. number_of_code (joined others (get_or zs.now k Code.Computed))) }
 {
-    let mut k = 0;
-    while k < row.len() {
-        row[k] = join(others, zs[k]);
-        k += 1;
+    for (k, code) in row.iter_mut().enumerate() {
+        *code = u8::from(join(others, zs[k]));
     }
 }
 
 // A plane of which axis 0 says `first`.
-fn cover_plane(plane: &mut [u8], ys: &[u8], zs: &[u8], rows: usize, row: usize, first: u8)
-    requires rows_in_bounds { (rows ≤ length ys.now) × (row ≤ length zs.now) }
-    requires plane_len { length plane.old ≡ rows * row }
-    requires le_row { 1 ≤ row }
-    ensures { plane.new ≡ tabulate (rows * row) (code_in_plane first ys.now zs.now row) }
+fn cover_plane(plane: &mut [u8], first: Code, ys: &[Code], zs: &[Code])
+    requires { length plane.old ≡ length ys.now * length zs.now }
+    ensures { plane.new ≡ tabulate (length ys.now * length zs.now) (code_in_plane first ys.now zs.now) }
 {
-    let mut j = 0;
-    while j < rows {
-        let others = join(first, ys[j]);
-        cover_row(&mut plane[j * row..(j + 1) * row], zs, others);
-        j += 1;
+    let row = zs.len();
+    for (j, y) in ys.iter().enumerate() {
+        cover_row(&mut plane[j * row..(j + 1) * row], join(first, *y), zs);
     }
 }
 
 // The planes.
-fn cover_planes(
-    coverage: &mut [u8],
-    xs: &[u8],
-    ys: &[u8],
-    zs: &[u8],
-    planes: usize,
-    rows: usize,
-    row: usize,
-)
-    requires planes_in_bounds { (planes ≤ length xs.now) × ((rows ≤ length ys.now) × (row ≤ length zs.now)) }
-    requires rows_le_longest { (rows ≤ longest) × ((1 ≤ row) × (row ≤ longest)) }
-    requires coverage_len { length coverage.old ≡ planes * (rows * row) }
-    ensures { coverage.new ≡ tabulate (planes * (rows * row)) (code_by_axes xs.now ys.now zs.now rows row) }
+fn cover_planes(coverage: &mut [u8], xs: &[Code], ys: &[Code], zs: &[Code])
+    requires le_longest { (length ys.now ≤ longest) × (length zs.now ≤ longest) }
+    requires coverage_len { length coverage.old ≡ length xs.now * (length ys.now * length zs.now) }
+    ensures { coverage.new ≡ tabulate (length xs.now * (length ys.now * length zs.now)) (code_by_axes xs.now ys.now zs.now) }
 {
-    let plane = rows * row;
-    let mut i = 0;
-    while i < planes {
-        cover_plane(
-            &mut coverage[i * plane..(i + 1) * plane],
-            ys,
-            zs,
-            rows,
-            row,
-            xs[i],
-        );
-        i += 1;
+    let plane = ys.len() * zs.len();
+    for (i, x) in xs.iter().enumerate() {
+        cover_plane(&mut coverage[i * plane..(i + 1) * plane], *x, ys, zs);
     }
 }
 
@@ -173,11 +132,11 @@ pub fn cover(coverage: &mut [u8], xa: Axis, ya: Axis, za: Axis, order: usize, mo
     requires out_le_longest { (xa.out ≤ longest) × ((ya.out ≤ longest) × ((1 ≤ za.out) × (za.out ≤ longest))) }
     ensures { coverage.new ≡ own_codes order mode xa ya za }
 {
-    let mut xs = [0; LONGEST];
-    let mut ys = [0; LONGEST];
-    let mut zs = [0; LONGEST];
+    let mut xs = [Code::Computed; LONGEST];
+    let mut ys = [Code::Computed; LONGEST];
+    let mut zs = [Code::Computed; LONGEST];
     axis_codes(&mut xs, xa, order, mode);
     axis_codes(&mut ys, ya, order, mode);
     axis_codes(&mut zs, za, order, mode);
-    cover_planes(coverage, &xs, &ys, &zs, xa.out, ya.out, za.out);
+    cover_planes(coverage, &xs[..xa.out], &ys[..ya.out], &zs[..za.out]);
 }

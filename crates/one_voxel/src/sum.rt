@@ -1,90 +1,47 @@
-// The sum of one voxel, in document 01's order: z outermost, x innermost. Neighbours and weights are lent
-// as arrays of six, of which the first n count.
-ghost use Rattle.std.specs.Prelude.{◌≡◌, ◌<◌, ◌≤◌, length};
-ghost use Rattle.voxels.specs.Sum.{lent, sum_x, sum_y, sum_at};
-ghost use Rattle.voxels.specs.Bookkeeping.{Planes};
+// The sum of one voxel, in document 01's order: z outermost, x innermost. Those of four voxels at once
+// (crate voxels) have the same three loops; one of any number of voxels would be no plainer than both.
+ghost use Rattle.std.specs.Prelude.{◌≡◌, ◌+◌, ◌<◌, length};
+ghost use Rattle.voxels.specs.Sum.{sum_x, sum_y};
+ghost use Rattle.voxels.specs.Voxel.{tap_of};
+ghost use Rattle.voxels.specs.Bookkeeping.{InSource, Planes, sum_of};
+
+use axis::point::Point;
+use voxels::source::Source;
 
 // At a place of each plane, with the weight v of the other two axes.
-fn add_x(
-    data: &[f64],
-    plane: usize,
-    n: usize,
-    nx: &[usize; 6],
-    wx: &[f64; 6],
-    place: usize,
-    v: f64,
-    sum: f64,
-) -> f64
-    requires n_bound { (n ≤ 6) × (place < plane) }
-    requires planes { Planes nx.now n plane (length «data».now) }
-    ensures { result ≡ sum_x «data».now plane (lent nx.now wx.now) place v sum n }
+fn add_x(source: &Source, x: &Point, place: usize, v: f64, sum: f64) -> f64
+    requires in_plane { place < source.now.plane }
+    requires planes { Planes x.now.at (source.now.order + 1) source.now.plane (length source.now.numbers.now) }
+    ensures { result ≡ sum_x source.now.numbers.now source.now.plane (tap_of x.now) place v sum (source.now.order + 1) }
 {
     let mut t = sum;
-    let mut k = 0;
-    while k < n {
-        let i = nx[k];
-        let w = wx[k];
-        t = t + data[i * plane + place] * (w * v);
-        k += 1;
+    for k in 0..source.order + 1 {
+        t += source.numbers[x.at[k] * source.plane + place] * (x.weight[k] * v);
     }
     t
 }
 
 // At place z of each row, with the weight w of axis 2.
-fn add_y(
-    data: &[f64],
-    plane: usize,
-    row: usize,
-    n: usize,
-    nx: &[usize; 6],
-    wx: &[f64; 6],
-    ny: &[usize; 6],
-    wy: &[f64; 6],
-    z: usize,
-    w: f64,
-    sum: f64,
-) -> f64
-    requires n_bound { (n ≤ 6) × (z < row) }
-    requires planes { Planes nx.now n plane (length «data».now) }
-    requires planes_2 { Planes ny.now n row plane }
-    ensures { result ≡ sum_y «data».now plane row n (lent nx.now wx.now) (lent ny.now wy.now) z w sum n }
+fn add_y(source: &Source, x: &Point, y: &Point, z: usize, w: f64, sum: f64) -> f64
+    requires in_row { z < source.now.row }
+    requires in_source { InSource source.now x.now y.now }
+    ensures { result ≡ sum_y source.now.numbers.now source.now.plane source.now.row (source.now.order + 1) (tap_of x.now) (tap_of y.now) z w sum (source.now.order + 1) }
 {
     let mut t = sum;
-    let mut k = 0;
-    while k < n {
-        let j = ny[k];
-        let v = wy[k];
-        t = add_x(data, plane, n, nx, wx, j * row + z, v * w, t);
-        k += 1;
+    for k in 0..source.order + 1 {
+        t = add_x(source, x, y.at[k] * source.row + z, y.weight[k] * w, t);
     }
     t
 }
 
-pub(crate) fn sum_at(
-    data: &[f64],
-    plane: usize,
-    row: usize,
-    n: usize,
-    nx: &[usize; 6],
-    wx: &[f64; 6],
-    ny: &[usize; 6],
-    wy: &[f64; 6],
-    nz: &[usize; 6],
-    wz: &[f64; 6],
-) -> f64
-    requires n_bound { n ≤ 6 }
-    requires planes { Planes nx.now n plane (length «data».now) }
-    requires planes_2 { Planes ny.now n row plane }
-    requires planes_3 { Planes nz.now n 1 row }
-    ensures { result ≡ sum_at «data».now plane row n (lent nx.now wx.now) (lent ny.now wy.now) (lent nz.now wz.now) }
+pub(crate) fn sum_at(source: &Source, x: &Point, y: &Point, z: &Point) -> f64
+    requires in_source { InSource source.now x.now y.now }
+    requires places { Planes z.now.at (source.now.order + 1) 1 source.now.row }
+    ensures { result ≡ sum_of source.now (tap_of x.now) (tap_of y.now) (tap_of z.now) }
 {
     let mut t = 0.0;
-    let mut k = 0;
-    while k < n {
-        let z = nz[k];
-        let w = wz[k];
-        t = add_y(data, plane, row, n, nx, wx, ny, wy, z, w, t);
-        k += 1;
+    for k in 0..source.order + 1 {
+        t = add_y(source, x, y, z.at[k], z.weight[k], t);
     }
     t
 }

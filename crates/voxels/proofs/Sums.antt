@@ -1,5 +1,5 @@
 -- The sums, one turn at a time; and of four voxels at once.
-use Prim.Native.Nat.{ℕ, zero, suc, ◌+◌, ◌*◌, ◌-◌, ◌≤◌, ◌<◌}
+use Prim.Native.Nat.{ℕ, zero, suc, ◌+◌, ◌*◌, ◌≤◌, ◌<◌}
 use native.Mathlib.Omega.{arith}
 use native.Mathlib.Numerals.{add-one}
 use native.Mathlib.Nat.{add_assoc, mul-le-mul_left, mul-one}
@@ -8,8 +8,10 @@ use mathlib.Core.List.{List}
 use lib.ListN.{get_or, take, drop}
 use lib.Ieee.{Float, nan}
 use Rattle.lists.proofs.Stretches.{next, in_part}
+use Rattle.voxels.specs.declared.sum.Four.{Four}
+use Rattle.voxels.specs.declared.table.Table.{Table}
 use Rattle.exact.specs.Rounded.{◌⊗◌}
-use Rattle.voxels.specs.Bookkeeping.{column, lane}
+use Rattle.voxels.specs.Bookkeeping.{column, Each, lane, at_lane}
 use Rattle.voxels.specs.Sum.{Tap, term, sum_x, sum_y, sum_z}
 
 -- ---- what holds in each of the four lanes
@@ -18,6 +20,12 @@ in_each P a b c d zero = a
 in_each P a b c d (suc zero) = b
 in_each P a b c d (suc (suc zero)) = c
 in_each P a b c d (suc (suc (suc j))) = d j
+
+pub lane_of : {A : Type 0} (P : A → Type 0) (f : Four A) → Each P f → (j : ℕ) → P (at_lane f j)
+lane_of P f h = in_each _ h.0 h.1.0 h.1.1.0 (λ j. h.1.1.1)
+
+pub each_of : {A : Type 0} (P : A → Type 0) (f : Four A) → ((j : ℕ) → P (at_lane f j)) → Each P f
+each_of P f h = (h 0, (h 1, (h 2, h 3)))
 
 pub lane_below : (j : ℕ) → lane j < 4
 lane_below = in_each _ (omega arith) (omega arith) (omega arith) (λ j. omega arith)
@@ -46,9 +54,9 @@ module _ (xs : List Float) (p : ℕ) (x : Tap) (place : ℕ) (v s : Float) (k : 
   turn_x e q = q ∙ (λ i. term (e i) (get_or xs (x.at k * p + place) nan) (x.weight k) v) ∙ rw add-one
 
   -- where the plane is lent as a stretch
-  pub turn_x_lent : place < p → t ≡ sum_x xs p x place v s k → r ≡ term t (get_or (take ((x.at k + 1) * p - x.at k * p) (drop (x.at k * p) xs)) place nan) (x.weight k) v → r ≡ sum_x xs p x place v s (k + 1)
+  pub turn_x_lent : place < p → t ≡ sum_x xs p x place v s k → r ≡ term t (get_or (take p (drop (x.at k * p) xs)) place nan) (x.weight k) v → r ≡ sum_x xs p x place v s (k + 1)
   turn_x_lent h e q =
-      let f = in_part nan xs (x.at k * p) ((x.at k + 1) * p - x.at k * p) place (omega (arith, next (x.at k) p)) in
+      let f = in_part nan xs (x.at k * p) p place h in
       turn_x e (q ∙ (λ i. term t (f i) (x.weight k) v))
 
 module _ (xs : List Float) (plane row n : ℕ) (x y : Tap) where
@@ -74,12 +82,12 @@ module _ (xs : List Float) (plane row n : ℕ) (x y : Tap) where
 
   -- where z stands in a table
   pub turn_z_tabled :
-      (at : List ℕ) (weight : List Float) (o l k : ℕ) {t r w : Float} {place : ℕ} →
-      t ≡ sum_z xs plane row n x y (column at weight (o + l)) k →
-      place ≡ get_or at (k * 4096 + o + l) 0 →
-      w ≡ get_or weight (k * 4096 + o + l) nan →
+      (table : Table) (o l k : ℕ) {t r w : Float} {place : ℕ} →
+      t ≡ sum_z xs plane row n x y (column table (o + l)) k →
+      place ≡ get_or table.at (k * 4096 + o + l) 0 →
+      w ≡ get_or table.weight (k * 4096 + o + l) nan →
       r ≡ sum_y xs plane row n x y place w t n →
-      r ≡ sum_z xs plane row n x y (column at weight (o + l)) (k + 1)
-  turn_z_tabled at weight o l k e f g q =
+      r ≡ sum_z xs plane row n x y (column table (o + l)) (k + 1)
+  turn_z_tabled table o l k e f g q =
       let m = add_assoc (k * 4096) o l in
-      turn_z (column at weight (o + l)) k e (rw m at f) (rw m at g) q
+      turn_z (column table (o + l)) k e (rw m at f) (rw m at g) q

@@ -15,6 +15,9 @@ use borrow.Author.Tests.{leb-true}
 use Rattle.exact.specs.Within.{Within}
 use Rattle.exact.proofs.Above.{Above}
 use Rattle.lists.specs.Tabulate.{tabulate}
+use Rattle.lists.specs.Bookkeeping.{Filled}
+use Rattle.coverage.specs.Coverage.{kept_at}
+use Rattle.voxels.specs.declared.table.Table.{Table}
 use Rattle.lists.proofs.Tabulated.{get_d_tabulate, length-tabulate}
 use Rattle.border.specs.declared.BorderMode.{BorderMode}
 use Rattle.axis.specs.declared.coordinate.Axis.{Axis}
@@ -34,16 +37,16 @@ use Rattle.voxels.specs.Bookkeeping.{Tabled, Column}
 pub column-none : {A : Type 0} (d : A) (i : ℕ) (c l : List A) → Column d i c l l 0
 column-none d i c l = record { same = refl; set = λ k h. absurd (not-suc-le-zero h); rest = λ m _. refl }
 
-pub column_more : {A : Type 0} (d : A) (i : ℕ) (c l₀ l : List A) (k : ℕ) → k < 6 → i < 4096 → length l ≡ 24580 → Column d i c l₀ l k → Column d i c l₀ (set l (k * 4096 + i) (get_or c k d)) (k + 1)
-column_more d i c l₀ l k K I e p = record {
-  same = length-set l (k * 4096 + i) (get_or c k d) ∙ p.same;
+pub column_more : {A : Type 0} (d : A) (i : ℕ) (c l₀ l : List A) (k : ℕ) (v : A) → v ≡ get_or c k d → k < 6 → i < 4096 → length l ≡ 24580 → Column d i c l₀ l k → Column d i c l₀ (set l (k * 4096 + i) v) (k + 1)
+column_more d i c l₀ l k v q K I e p = record {
+  same = length-set l (k * 4096 + i) v ∙ p.same;
   set = λ j h.
       let le : j ≤ k = omega arith in
       elim (eq-or-lt_of_le le) [
-        | inl q ↦ rw q (get_or-set_same l (k * 4096 + i) (get_or c k d) d (omega arith))
-        | inr b ↦ get_or-set_other l (k * 4096 + i) (j * 4096 + i) (get_or c k d) d (λ z. omega arith) ∙ p.set j b
+        | inl z ↦ rw z (get_or-set_same l (k * 4096 + i) v d (omega arith) ∙ q)
+        | inr b ↦ get_or-set_other l (k * 4096 + i) (j * 4096 + i) v d (λ z. omega arith) ∙ p.set j b
       ];
-  rest = λ m n. get_or-set_other l (k * 4096 + i) m (get_or c k d) d (λ z. n k (omega arith) z) ∙ p.rest m (λ j h z. n j (omega arith) z);
+  rest = λ m n. get_or-set_other l (k * 4096 + i) m v d (λ z. n k (omega arith) z) ∙ p.rest m (λ j h z. n j (omega arith) z);
 }
 
 -- ---- a record names places of its axis
@@ -82,40 +85,38 @@ point_inside order mode a i k r =
 
 -- ---- one output index more
 pub tabled_more :
-    (order : ℕ) (mode : BorderMode) (a : Axis) (i : ℕ) (at at' : List ℕ) (weight weight' : List Float) (p : Point) → p ≡ point_at order mode a i → Reached order a i → i < 4096 →
-    Column 0 i p.at at at' 6 → Column nan i p.weight weight weight' 6 → Tabled order mode a at weight i → Tabled order mode a at' weight' (i + 1)
-tabled_more order mode a i at at' weight weight' p e r I c w t = record {
-  long = c.same ∙ t.long;
-  wide = w.same ∙ t.wide;
+    (order : ℕ) (mode : BorderMode) (a : Axis) (i : ℕ) (t t' : Table) (p : Point) → p ≡ point_at order mode a i → Reached order a i → i < 4096 → length t.at ≡ 24580 →
+    Filled (kept_at mode a) false t'.kept (i + 1) → Column 0 i p.at t.at t'.at 6 → Column nan i p.weight t.weight t'.weight 6 → Tabled order mode a t i → Tabled order mode a t' (i + 1)
+tabled_more order mode a i t t' p e r I long f c w q = record {
+  kept = f;
   inside = λ m h. dite (ℕ_discrete (m % 4096) i) (λ q. dite (dec_lt (m / 4096) 6) (λ b. hit m q b) (λ n. miss m (λ k l z. omega arith) (omega (arith, c.same)))) (λ n. miss m (λ k l z. n (omega arith)) (omega (arith, c.same)));
   places = λ j k h l.
       let le : j ≤ i = omega arith in
       elim (eq-or-lt_of_le le) [
         | inl q ↦ rw q (c.set k l ∙ ap (λ (x : Point). get_or x.at k 0) e)
-        | inr b ↦ c.rest (k * 4096 + j) (λ k' l' z. omega arith) ∙ t.places j k b l
+        | inr b ↦ c.rest (k * 4096 + j) (λ k' l' z. omega arith) ∙ q.places j k b l
       ];
   weights = λ j k h l.
       let le : j ≤ i = omega arith in
       elim (eq-or-lt_of_le le) [
         | inl q ↦ rw q (w.set k l ∙ ap (λ (x : Point). get_or x.weight k nan) e)
-        | inr b ↦ w.rest (k * 4096 + j) (λ k' l' z. omega arith) ∙ t.weights j k b l
+        | inr b ↦ w.rest (k * 4096 + j) (λ k' l' z. omega arith) ∙ q.weights j k b l
       ];
 }
   where
-    hit : (m : ℕ) → m % 4096 ≡ i → m / 4096 < 6 → get_or at' m 0 < a.len
+    hit : (m : ℕ) → m % 4096 ≡ i → m / 4096 < 6 → get_or t'.at m 0 < a.len
     hit m q b =
         let z : m ≡ m / 4096 * 4096 + i = omega arith in
-        subst (λ (n : ℕ). n < a.len) (sym (ap (λ (x : ℕ). get_or at' x 0) z ∙ c.set (m / 4096) b ∙ ap (λ (x : Point). get_or x.at (m / 4096) 0) e)) (point_inside order mode a i (m / 4096) r)
+        subst (λ (n : ℕ). n < a.len) (sym (ap (λ (x : ℕ). get_or t'.at x 0) z ∙ c.set (m / 4096) b ∙ ap (λ (x : Point). get_or x.at (m / 4096) 0) e)) (point_inside order mode a i (m / 4096) r)
 
-    miss : (m : ℕ) → ((k : ℕ) → k < 6 → m ≡ k * 4096 + i → ⊥) → m < length at → get_or at' m 0 < a.len
-    miss m n h = subst (λ (x : ℕ). x < a.len) (sym (c.rest m n)) (t.inside m h)
+    miss : (m : ℕ) → ((k : ℕ) → k < 6 → m ≡ k * 4096 + i → ⊥) → m < length t.at → get_or t'.at m 0 < a.len
+    miss m n h = subst (λ (x : ℕ). x < a.len) (sym (c.rest m n)) (q.inside m h)
 
 -- ---- before the first
-pub table_start : (order : ℕ) (mode : BorderMode) (a : Axis) (w : Float) → 1 ≤ a.len → Tabled order mode a (replicate 24580 0) (replicate 24580 w) 0
-table_start order mode a w l = record {
-  long = length-replicate {A = ℕ} 24580 0;
-  wide = length-replicate 24580 w;
-  inside = λ m h. subst (λ (n : ℕ). n < a.len) (sym (get_or-replicate 24580 m 0 0 (omega (arith, length-replicate {A = ℕ} 24580 0)))) (omega arith);
+pub table_start : (order : ℕ) (mode : BorderMode) (a : Axis) (t : Table) → t.at ≡ replicate 24580 0 → 1 ≤ a.len → Tabled order mode a t 0
+table_start order mode a t e l = record {
+  inside = λ m h. subst (λ (n : ℕ). n < a.len) (sym (ap (λ (at : List ℕ). get_or at m 0) e ∙ get_or-replicate 24580 m 0 0 (omega (arith, ap length e, length-replicate {A = ℕ} 24580 0)))) (omega arith);
+  kept = λ m h. absurd (not-suc-le-zero h);
   places = λ j k h. absurd (not-suc-le-zero h);
   weights = λ j k h. absurd (not-suc-le-zero h);
 }

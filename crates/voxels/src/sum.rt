@@ -1,185 +1,105 @@
 // The sums of four voxels that follow each other on the last axis: each has a sum of its own, so
-// that their chains of additions do not wait for each other. The neighbours of axes 0 and 1 are
-// lent as arrays; those of axis 2 stand in a table, 4,096 places for each.
-ghost use Rattle.std.specs.Prelude.{◌≡◌, ℕ, ◌+◌, ◌*◌, ◌<◌, ◌≤◌, length, get_or};
+// that their chains of additions do not wait for each other.
+ghost use Rattle.std.specs.Prelude.{◌≡◌, ℕ, ◌+◌, ◌<◌, length, get_or};
 ghost use Rattle.std.specs.Float.{nan};
 ghost use Rattle.limits.specs.Limits.{longest};
-ghost use Rattle.exact.specs.Rounded.{◌⊗◌};
-ghost use Rattle.voxels.specs.Sum.{term, sum_x, sum_y, sum_at};
-ghost use Rattle.voxels.specs.Bookkeeping.{table_size, column, Planes, Inside, lane, number, place};
-ghost use Rattle.voxels.specs.Sum.{lent};
+ghost use Rattle.voxels.specs.Sum.{term, sum_x, sum_y};
+ghost use Rattle.voxels.specs.Voxel.{tap_of};
+ghost use Rattle.voxels.specs.Bookkeeping.{column, InSource, Planes, Inside, Each, sum_of, lane, at_lane};
 
+use crate::source::Source;
+use crate::table::Table;
+use axis::point::Point;
 use limits::LONGEST;
 
-// A number for each of four voxels.
+// A value for each of four voxels, by name: a generic struct holds no array of its parameter.
 #[derive(Clone, Copy)]
-pub struct Four {
-    pub a: f64,
-    pub b: f64,
-    pub c: f64,
-    pub d: f64,
+pub struct Four<T> {
+    pub a: T,
+    pub b: T,
+    pub c: T,
+    pub d: T,
 }
 
-// A place for each.
-#[derive(Clone, Copy)]
-pub struct Places {
-    pub a: usize,
-    pub b: usize,
-    pub c: usize,
-    pub d: usize,
+impl<T: Copy> Four<T> {
+    fn map<U, F: Fn(T) -> U>(self, f: F) -> Four<U>
+        requires { Each (F.pre f) self }
+        ensures { (j : ℕ) → F.post f (at_lane self j) (at_lane result j) }
+    {
+        Four {
+            a: f(self.a),
+            b: f(self.b),
+            c: f(self.c),
+            d: f(self.d),
+        }
+    }
+}
+
+fn four_at<T: Copy>(items: &[T], i: usize) -> Four<T>
+    requires { i + 3 < length items.now }
+    ensures { (j : ℕ) (d : T) → at_lane result j ≡ get_or items.now (i + lane j) d }
+{
+    Four {
+        a: items[i],
+        b: items[i + 1],
+        c: items[i + 2],
+        d: items[i + 3],
+    }
 }
 
 // One product more for each, from a plane.
-fn step(p: &[f64], w: f64, v: Four, at: Places, t: Four) -> Four
-    requires { (j : ℕ) → place at j < length p.now }
-    ensures { (j : ℕ) → number result j ≡ term (number t j) (get_or p.now (place at j) nan) w (number v j) }
-{
-    let qa = at.a;
-    let qb = at.b;
-    let qc = at.c;
-    let qd = at.d;
-    Four {
-        a: t.a + p[qa] * (w * v.a),
-        b: t.b + p[qb] * (w * v.b),
-        c: t.c + p[qc] * (w * v.c),
-        d: t.d + p[qd] * (w * v.d),
-    }
-}
-
-fn times(w: f64, z: Four) -> Four
-    ensures { (j : ℕ) → number result j ≡ w ⊗ number z j }
+fn step(p: &[f64], w: f64, v: Four<f64>, at: Four<usize>, t: Four<f64>) -> Four<f64>
+    requires { Each (λ i. i < length p.now) at }
+    ensures { (j : ℕ) → at_lane result j ≡ term (at_lane t j) (get_or p.now (at_lane at j) nan) w (at_lane v j) }
 {
     Four {
-        a: w * z.a,
-        b: w * z.b,
-        c: w * z.c,
-        d: w * z.d,
+        a: t.a + p[at.a] * (w * v.a),
+        b: t.b + p[at.b] * (w * v.b),
+        c: t.c + p[at.c] * (w * v.c),
+        d: t.d + p[at.d] * (w * v.d),
     }
 }
 
-fn moved(by: usize, z: Places, end: usize) -> Places
-    requires { (j : ℕ) → by + place z j < end }
-    ensures { (j : ℕ) → place result j ≡ by + place z j }
-{
-    Places {
-        a: by + z.a,
-        b: by + z.b,
-        c: by + z.c,
-        d: by + z.d,
-    }
-}
-
-fn add_x(
-    data: &[f64],
-    plane: usize,
-    n: usize,
-    nx: &[usize; 6],
-    wx: &[f64; 6],
-    at: Places,
-    v: Four,
-    sum: Four,
-) -> Four
-    requires n_bound { n ≤ 6 }
-    requires by_index { (j : ℕ) → place at j < plane }
-    requires planes { Planes nx.now n plane (length «data».now) }
-    ensures { (j : ℕ) → number result j ≡ sum_x «data».now plane (lent nx.now wx.now) (place at j) (number v j) (number sum j) n }
+fn add_x(source: &Source, x: &Point, at: Four<usize>, v: Four<f64>, sum: Four<f64>) -> Four<f64>
+    requires places { Each (λ i. i < source.now.plane) at }
+    requires planes { Planes x.now.at (source.now.order + 1) source.now.plane (length source.now.numbers.now) }
+    ensures { (j : ℕ) → at_lane result j ≡ sum_x source.now.numbers.now source.now.plane (tap_of x.now) (at_lane at j) (at_lane v j) (at_lane sum j) (source.now.order + 1) }
 {
     let mut t = sum;
-    let mut k = 0;
-    while k < n {
-        let i = nx[k];
-        let w = wx[k];
-        t = step(&data[i * plane..(i + 1) * plane], w, v, at, t);
-        k += 1;
+    for k in 0..source.order + 1 {
+        t = step(source.plane_at(x.at[k]), x.weight[k], v, at, t);
     }
     t
 }
 
 fn add_y(
-    data: &[f64],
-    plane: usize,
-    row: usize,
-    n: usize,
-    nx: &[usize; 6],
-    wx: &[f64; 6],
-    ny: &[usize; 6],
-    wy: &[f64; 6],
-    z: Places,
-    w: Four,
-    sum: Four,
-) -> Four
-    requires n_bound { n ≤ 6 }
-    requires by_index { (j : ℕ) → place z j < row }
-    requires planes { Planes nx.now n plane (length «data».now) }
-    requires planes_2 { Planes ny.now n row plane }
-    ensures { (j : ℕ) → number result j ≡ sum_y «data».now plane row n (lent nx.now wx.now) (lent ny.now wy.now) (place z j) (number w j) (number sum j) n }
+    source: &Source,
+    x: &Point,
+    y: &Point,
+    z: Four<usize>,
+    w: Four<f64>,
+    sum: Four<f64>,
+) -> Four<f64>
+    requires places { Each (λ i. i < source.now.row) z }
+    requires in_source { InSource source.now x.now y.now }
+    ensures { (j : ℕ) → at_lane result j ≡ sum_y source.now.numbers.now source.now.plane source.now.row (source.now.order + 1) (tap_of x.now) (tap_of y.now) (at_lane z j) (at_lane w j) (at_lane sum j) (source.now.order + 1) }
 {
     let mut t = sum;
-    let mut k = 0;
-    while k < n {
-        let i = ny[k];
-        let v = wy[k];
-        t = add_x(
-            data,
-            plane,
-            n,
-            nx,
-            wx,
-            moved(i * row, z, plane),
-            times(v, w),
-            t,
-        );
-        k += 1;
+    for k in 0..source.order + 1 {
+        let start = y.at[k] * source.row;
+        let v = y.weight[k];
+        t = add_x(source, x, z.map(|place| start + place), w.map(|w| v * w), t);
     }
     t
 }
 
-fn weights_at(w: &[f64], i: usize) -> Four
-    requires { i + 3 < length w.now }
-    ensures { (j : ℕ) → number result j ≡ get_or w.now (i + lane j) nan }
-{
-    Four {
-        a: w[i + 0],
-        b: w[i + 1],
-        c: w[i + 2],
-        d: w[i + 3],
-    }
-}
-
-fn places_at(w: &[usize], i: usize) -> Places
-    requires { i + 3 < length w.now }
-    ensures { (j : ℕ) → place result j ≡ get_or w.now (i + lane j) 0 }
-{
-    Places {
-        a: w[i + 0],
-        b: w[i + 1],
-        c: w[i + 2],
-        d: w[i + 3],
-    }
-}
-
 // The sums of the voxels at places o to o + 3 of a row. Each place of the table names one of the row,
 // so a sum whose place is dropped, or past the end of the row, is of no use but does no harm.
-pub(crate) fn sum_four(
-    data: &[f64],
-    plane: usize,
-    row: usize,
-    n: usize,
-    nx: &[usize; 6],
-    wx: &[f64; 6],
-    ny: &[usize; 6],
-    wy: &[f64; 6],
-    at: &[usize],
-    weight: &[f64],
-    o: usize,
-) -> Four
-    requires n_bound { n ≤ 6 }
+pub(crate) fn sum_four(source: &Source, table: &Table, x: &Point, y: &Point, o: usize) -> Four<f64>
     requires o_lt_longest { o < longest }
-    requires planes { Planes nx.now n plane (length «data».now) }
-    requires planes_2 { Planes ny.now n row plane }
-    requires table_size_in_bounds { (table_size ≤ length at.now) × (table_size ≤ length weight.now) }
-    requires inside { Inside at.now row }
-    ensures { (j : ℕ) → number result j ≡ sum_at «data».now plane row n (lent nx.now wx.now) (lent ny.now wy.now) (column at.now weight.now (o + lane j)) }
+    requires in_source { InSource source.now x.now y.now }
+    requires inside { Inside table.now.at source.now.row }
+    ensures { (j : ℕ) → at_lane result j ≡ sum_of source.now (tap_of x.now) (tap_of y.now) (column table.now (o + lane j)) }
 {
     let mut t = Four {
         a: 0.0,
@@ -187,23 +107,16 @@ pub(crate) fn sum_four(
         c: 0.0,
         d: 0.0,
     };
-    let mut k = 0;
-    while k < n {
+    for k in 0..source.order + 1 {
         let i = k * LONGEST + o;
         t = add_y(
-            data,
-            plane,
-            row,
-            n,
-            nx,
-            wx,
-            ny,
-            wy,
-            places_at(at, i),
-            weights_at(weight, i),
+            source,
+            x,
+            y,
+            four_at(&table.at, i),
+            four_at(&table.weight, i),
             t,
         );
-        k += 1;
     }
     t
 }

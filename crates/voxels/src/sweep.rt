@@ -1,22 +1,20 @@
-// The values of a volume, row by row. The last axis stands in a table and in flags; a record of axis 0
-// is made for each plane, one of axis 1 for each row.
+// The values of a volume, row by row. The last axis stands in a table; a record of axis 0 is made for
+// each plane, one of axis 1 for each row.
 ghost use Rattle.std.specs.Prelude.{◌≡◌, false, cond, ℕ, ◌+◌, ◌*◌, ◌<◌, ◌≤◌, length, get_or};
 ghost use Rattle.std.specs.Float.{nan};
 ghost use Rattle.limits.specs.Limits.{longest, longest_padded};
 ghost use Rattle.lists.specs.Tabulate.{tabulate};
-ghost use Rattle.voxels.specs.Sum.{sum_at};
-ghost use Rattle.voxels.specs.Bookkeeping.{table_size, column, Planes, Inside};
-ghost use Rattle.voxels.specs.Sum.{lent};
 ghost use Rattle.axis.specs.Bookkeeping.{Reaches};
-ghost use Rattle.voxels.specs.Voxel.{computed, values};
-ghost use Rattle.voxels.specs.Bookkeeping.{with_voxel, with_four, row_value, plane_value, volume_value};
+ghost use Rattle.voxels.specs.Voxel.{tap_of, values};
+ghost use Rattle.voxels.specs.Bookkeeping.{column, InSource, Planes, Inside, computed_of, sum_of, with_voxel, with_four, row_value, plane_value, volume_value};
 
+use crate::source::Source;
 use crate::sum::{Four, sum_four};
-use crate::table::{TABLE, fill_table};
+use crate::table::{TABLE, Table};
 use axis::coordinate::Axis;
-use axis::point::point_at;
+use axis::point::{Point, point_at};
 use border::BorderMode;
-use coverage::cover::{both, drop_value};
+use coverage::cover::drop_value;
 use limits::LONGEST;
 
 fn chosen(kept: bool, value: f64, dropped: f64) -> f64
@@ -25,26 +23,14 @@ fn chosen(kept: bool, value: f64, dropped: f64) -> f64
     if kept { value } else { dropped }
 }
 
-fn fill_row(out: &mut [f64], value: f64)
-    ensures { out.new ≡ tabulate (length out.old) (λ k. value) }
-{
-    let mut k = 0;
-    while k < out.len() {
-        out[k] = value;
-        k += 1;
-    }
-}
-
 // Order 0: the voxels of one row of a plane, the row that begins at `start`.
-fn copy_row(out: &mut [f64], kept: &[bool], plane: &[f64], start: usize, at: &[usize], dropped: f64)
-    requires out_in_bounds { (length out.old ≤ length kept.now) × (length out.old ≤ length at.now) }
-    requires by_index { (k : ℕ) → k < length at.now → start + get_or at.now k 0 < length plane.now }
-    ensures { out.new ≡ tabulate (length out.old) (λ k. cond (get_or kept.now k false) (get_or plane.now (start + get_or at.now k 0) nan) dropped) }
+fn copy_row(out: &mut [f64], table: &Table, plane: &[f64], start: usize, dropped: f64)
+    requires out_len { length out.old ≤ longest }
+    requires by_index { (k : ℕ) → k < length table.now.at → start + get_or table.now.at k 0 < length plane.now }
+    ensures { out.new ≡ tabulate (length out.old) (λ k. cond (get_or table.now.kept k false) (get_or plane.now (start + get_or table.now.at k 0) nan) dropped) }
 {
-    let mut k = 0;
-    while k < out.len() {
-        out[k] = chosen(kept[k], plane[start + at[k]], dropped);
-        k += 1;
+    for (k, value) in out.iter_mut().enumerate() {
+        *value = chosen(table.kept[k], plane[start + table.at[k]], dropped);
     }
 }
 
@@ -59,7 +45,7 @@ fn put(out: &mut [f64], kept: &[bool], k: usize, value: f64, dropped: f64)
 }
 
 // Voxels o to o + 3, those that there are.
-fn put_four(out: &mut [f64], kept: &[bool], o: usize, t: Four, dropped: f64)
+fn put_four(out: &mut [f64], kept: &[bool], o: usize, t: Four<f64>, dropped: f64)
     requires { (length out.old ≤ length kept.now) × (o < longest) }
     ensures { out.new ≡ with_four kept.now dropped out.old o t }
 {
@@ -70,234 +56,127 @@ fn put_four(out: &mut [f64], kept: &[bool], o: usize, t: Four, dropped: f64)
 }
 
 // Orders above 0, in blocks of four voxels.
-fn sum_row(
-    out: &mut [f64],
-    kept: &[bool],
-    data: &[f64],
-    plane: usize,
-    row: usize,
-    n: usize,
-    nx: &[usize; 6],
-    wx: &[f64; 6],
-    ny: &[usize; 6],
-    wy: &[f64; 6],
-    at: &[usize],
-    weight: &[f64],
-    dropped: f64,
-)
-    requires n_bound { n ≤ 6 }
-    requires out_len_bound { (length out.old ≤ longest) × (length out.old ≤ length kept.now) }
-    requires planes { Planes nx.now n plane (length «data».now) }
-    requires planes_2 { Planes ny.now n row plane }
-    requires table_size_in_bounds { (table_size ≤ length at.now) × (table_size ≤ length weight.now) }
-    requires inside { Inside at.now row }
-    ensures { out.new ≡ tabulate (length out.old) (λ k. cond (get_or kept.now k false) (sum_at «data».now plane row n (lent nx.now wx.now) (lent ny.now wy.now) (column at.now weight.now k)) dropped) }
+fn sum_row(out: &mut [f64], source: &Source, table: &Table, x: &Point, y: &Point, dropped: f64)
+    requires out_len { length out.old ≤ longest }
+    requires in_source { InSource source.now x.now y.now }
+    requires inside { Inside table.now.at source.now.row }
+    ensures { out.new ≡ tabulate (length out.old) (λ k. cond (get_or table.now.kept k false) (sum_of source.now (tap_of x.now) (tap_of y.now) (column table.now k)) dropped) }
 {
-    let mut o = 0;
-    while o < out.len() {
-        let t = sum_four(data, plane, row, n, nx, wx, ny, wy, at, weight, o);
-        put_four(out, kept, o, t, dropped);
-        o += 4;
+    for o in (0..out.len()).step_by(4) {
+        put_four(
+            out,
+            &table.kept,
+            o,
+            sum_four(source, table, x, y, o),
+            dropped,
+        );
     }
 }
 
 // A row that axes 0 and 1 keep.
-fn kept_row(
-    out: &mut [f64],
-    kept: &[bool],
-    data: &[f64],
-    plane: usize,
-    row: usize,
-    order: usize,
-    nx: &[usize; 6],
-    wx: &[f64; 6],
-    ny: &[usize; 6],
-    wy: &[f64; 6],
-    at: &[usize],
-    weight: &[f64],
-    dropped: f64,
-)
-    requires order_bound { order ≤ 5 }
-    requires out_len_bound { (length out.old ≤ longest) × (length out.old ≤ length kept.now) }
-    requires planes { Planes nx.now (order + 1) plane (length «data».now) }
-    requires planes_2 { Planes ny.now (order + 1) row plane }
-    requires table_size_in_bounds { (table_size ≤ length at.now) × (table_size ≤ length weight.now) }
-    requires inside { Inside at.now row }
-    ensures { out.new ≡ tabulate (length out.old) (λ k. cond (get_or kept.now k false) (computed order «data».now plane row (lent nx.now wx.now) (lent ny.now wy.now) (column at.now weight.now k)) dropped) }
+fn kept_row(out: &mut [f64], source: &Source, table: &Table, x: &Point, y: &Point, dropped: f64)
+    requires out_len { length out.old ≤ longest }
+    requires in_source { InSource source.now x.now y.now }
+    requires inside { Inside table.now.at source.now.row }
+    ensures { out.new ≡ tabulate (length out.old) (λ k. cond (get_or table.now.kept k false) (computed_of source.now (tap_of x.now) (tap_of y.now) (column table.now k)) dropped) }
 {
-    if order == 0 {
-        let i = nx[0];
-        let j = ny[0];
+    if source.order == 0 {
         copy_row(
             out,
-            kept,
-            &data[i * plane..(i + 1) * plane],
-            j * row,
-            at,
+            table,
+            source.plane_at(x.at[0]),
+            y.at[0] * source.row,
             dropped,
         );
     } else {
-        sum_row(
-            out,
-            kept,
-            data,
-            plane,
-            row,
-            order + 1,
-            nx,
-            wx,
-            ny,
-            wy,
-            at,
-            weight,
-            dropped,
-        );
+        sum_row(out, source, table, x, y, dropped);
     }
 }
 
 // A row that axes 0 and 1 keep, or not.
 fn value_row(
     out: &mut [f64],
-    others: bool,
-    kept: &[bool],
-    data: &[f64],
-    plane: usize,
-    row: usize,
-    order: usize,
-    nx: &[usize; 6],
-    wx: &[f64; 6],
-    ny: &[usize; 6],
-    wy: &[f64; 6],
-    at: &[usize],
-    weight: &[f64],
+    source: &Source,
+    table: &Table,
     mode: BorderMode,
+    x: &Point,
+    y: &Point,
 )
-    requires order_bound { order ≤ 5 }
-    requires out_len_bound { (length out.old ≤ longest) × (length out.old ≤ length kept.now) }
-    requires planes { Planes nx.now (order + 1) plane (length «data».now) }
-    requires planes_2 { Planes ny.now (order + 1) row plane }
-    requires table_size_in_bounds { (table_size ≤ length at.now) × (table_size ≤ length weight.now) }
-    requires inside { Inside at.now row }
-    ensures { out.new ≡ tabulate (length out.old) (row_value order mode «data».now plane row kept.now at.now weight.now (lent nx.now wx.now) (lent ny.now wy.now) others) }
+    requires out_len { (length out.old ≡ table.now.width) × (table.now.width ≤ longest) }
+    requires in_source { InSource source.now x.now y.now }
+    requires inside { Inside table.now.at source.now.row }
+    ensures { out.new ≡ tabulate table.now.width (row_value mode source.now table.now x.now y.now) }
 {
     let dropped = drop_value(mode);
-    if others {
-        kept_row(
-            out, kept, data, plane, row, order, nx, wx, ny, wy, at, weight, dropped,
-        );
+    if x.mark.is_kept() && y.mark.is_kept() {
+        kept_row(out, source, table, x, y, dropped);
     } else {
-        fill_row(out, dropped);
+        out.fill(dropped);
     }
 }
 
-// A plane at an index of axis 0 that is kept or not.
+// A plane at an index of axis 0.
 fn value_plane(
     out: &mut [f64],
-    first: bool,
-    width: usize,
-    kept: &[bool],
-    data: &[f64],
-    plane: usize,
-    row: usize,
-    order: usize,
-    nx: &[usize; 6],
-    wx: &[f64; 6],
-    ya: Axis,
-    at: &[usize],
-    weight: &[f64],
+    source: &Source,
+    table: &Table,
     mode: BorderMode,
+    x: &Point,
+    ya: Axis,
 )
-    requires order_bound { order ≤ 5 }
-    requires out_len { length out.old ≡ ya.out * width }
-    requires width_le_longest { (width ≤ longest) × (width ≤ length kept.now) }
-    requires planes { Planes nx.now (order + 1) plane (length «data».now) }
-    requires plane_value { plane ≡ ya.len * row }
-    requires table_size_in_bounds { (table_size ≤ length at.now) × (table_size ≤ length weight.now) }
-    requires inside { Inside at.now row }
-    requires reaches { Reaches order ya }
-    ensures { out.new ≡ tabulate (ya.out * width) (plane_value order mode «data».now plane row kept.now at.now weight.now ya width (lent nx.now wx.now) first) }
+    requires out_len { (length out.old ≡ ya.out * table.now.width) × (table.now.width ≤ longest) }
+    requires planes { Planes x.now.at (source.now.order + 1) source.now.plane (length source.now.numbers.now) }
+    requires plane_value { source.now.plane ≡ ya.len * source.now.row }
+    requires inside { Inside table.now.at source.now.row }
+    requires reaches { Reaches source.now.order ya }
+    ensures { out.new ≡ tabulate (ya.out * table.now.width) (plane_value mode source.now table.now x.now ya) }
 {
-    let n = ya.out;
-    let mut j = 0;
-    while j < n {
-        let t = point_at(ya, j, order, mode);
-        let others = both(first, t.mark.is_kept());
-        let ny = t.at;
-        let wy = t.weight;
+    let source = *source; // so that its order is known not to change over the rows
+    let width = table.width;
+    for j in 0..ya.out {
+        let y = point_at(ya, j, source.order, mode);
         value_row(
             &mut out[j * width..(j + 1) * width],
-            others,
-            kept,
-            data,
-            plane,
-            row,
-            order,
-            nx,
-            wx,
-            &ny,
-            &wy,
-            at,
-            weight,
+            &source,
+            table,
             mode,
+            x,
+            &y,
         );
-        j += 1;
     }
 }
 
-// The planes, by the table and the flags of the last axis.
+// The planes.
 fn value_planes(
     out: &mut [f64],
-    width: usize,
-    kept: &[bool],
-    data: &[f64],
-    row: usize,
-    order: usize,
+    source: &Source,
+    table: &Table,
+    mode: BorderMode,
     xa: Axis,
     ya: Axis,
-    at: &[usize],
-    weight: &[f64],
-    mode: BorderMode,
 )
-    requires order_bound { order ≤ 5 }
-    requires out_len { length out.old ≡ xa.out * (ya.out * width) }
-    requires width_le_longest { (width ≤ longest) × (width ≤ length kept.now) }
-    requires data_len { length «data».now ≡ xa.len * (ya.len * row) }
-    requires len_le_longest_padded { (ya.len ≤ longest_padded) × (row ≤ longest_padded) }
-    requires table_size_in_bounds { (table_size ≤ length at.now) × (table_size ≤ length weight.now) }
-    requires inside { Inside at.now row }
-    requires reaches { Reaches order xa × Reaches order ya }
-    ensures { out.new ≡ tabulate (xa.out * (ya.out * width)) (volume_value order mode «data».now (ya.len * row) row kept.now at.now weight.now xa ya width) }
+    requires out_len { (length out.old ≡ xa.out * (ya.out * table.now.width)) × (table.now.width ≤ longest) }
+    requires data_len { length source.now.numbers.now ≡ xa.len * source.now.plane }
+    requires plane_value { source.now.plane ≡ ya.len * source.now.row }
+    requires inside { Inside table.now.at source.now.row }
+    requires reaches { Reaches source.now.order xa × Reaches source.now.order ya }
+    ensures { out.new ≡ tabulate (xa.out * (ya.out * table.now.width)) (volume_value mode source.now table.now xa ya) }
 {
-    let plane = ya.len * row;
-    let size = ya.out * width;
-    let n = xa.out;
-    let mut i = 0;
-    while i < n {
-        let t = point_at(xa, i, order, mode);
-        let first = t.mark.is_kept();
-        let nx = t.at;
-        let wx = t.weight;
+    let size = ya.out * table.width;
+    for i in 0..xa.out {
+        let x = point_at(xa, i, source.order, mode);
         value_plane(
             &mut out[i * size..(i + 1) * size],
-            first,
-            width,
-            kept,
-            data,
-            plane,
-            row,
-            order,
-            &nx,
-            &wx,
-            ya,
-            at,
-            weight,
+            source,
+            table,
             mode,
+            &x,
+            ya,
         );
-        i += 1;
     }
 }
 
-// The whole volume, from the voxels or coefficients of the source.
+// The whole volume, from the voxels or coefficients of the source; `Axes` is declared above this crate.
 pub fn sweep(
     out: &mut [f64],
     data: &[f64],
@@ -314,11 +193,18 @@ pub fn sweep(
     requires reaches { Reaches order xa × (Reaches order ya × Reaches order za) }
     ensures { out.new ≡ values order mode xa ya za «data».now }
 {
-    let mut kept = [false; LONGEST];
-    let mut at = [0; TABLE];
-    let mut weight = [0.0; TABLE];
-    fill_table(&mut kept, &mut at, &mut weight, za, order, mode);
-    value_planes(
-        out, za.out, &kept, data, za.len, order, xa, ya, &at, &weight, mode,
-    );
+    let mut table = Table {
+        width: 0,
+        kept: [false; LONGEST],
+        at: [0; TABLE],
+        weight: [0.0; TABLE],
+    };
+    table.fill(za, order, mode);
+    let source = Source {
+        numbers: data,
+        plane: ya.len * za.len,
+        row: za.len,
+        order,
+    };
+    value_planes(out, &source, &table, mode, xa, ya);
 }

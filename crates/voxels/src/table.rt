@@ -1,11 +1,8 @@
-// The table of the last axis: the neighbours and weights of every output index, those of neighbour k
-// from place k * LONGEST on, and which of the indices are kept.
-ghost use Rattle.std.specs.Prelude.{◌≡◌, false, ◌+◌, ◌*◌, ◌<◌, ◌≤◌, length};
-ghost use Rattle.std.specs.Float.{nan};
+// The table of the last axis: the neighbours and weights of every output index, and which of the
+// indices are kept.
+ghost use Rattle.std.specs.Prelude.{◌≡◌, ◌<◌, length};
 ghost use Rattle.limits.specs.Limits.{longest};
 ghost use Rattle.axis.specs.Bookkeeping.{Reaches};
-ghost use Rattle.lists.specs.Bookkeeping.{Filled};
-ghost use Rattle.coverage.specs.Coverage.{kept_at};
 ghost use Rattle.voxels.specs.Bookkeeping.{table_size, Tabled, Column};
 
 use axis::coordinate::Axis;
@@ -16,50 +13,39 @@ use limits::LONGEST;
 // A column of LONGEST places for each of six neighbours, and room for the last block of the last one.
 pub(crate) const TABLE: usize = 6 * LONGEST + 4;
 
-fn put_places(table: &mut [usize], column: &[usize; 6], i: usize)
+// Those of neighbour k stand from place k * LONGEST on, `width` of them: numbers apart from places, so
+// that four that follow each other are read at once.
+#[derive(Drop)]
+pub struct Table {
+    pub width: usize,
+    pub kept: [bool; LONGEST],
+    pub at: [usize; TABLE],
+    pub weight: [f64; TABLE],
+}
+
+fn put_column<T: Copy>(table: &mut [T], column: &[T; 6], i: usize)
     requires { (length table.old ≡ table_size) × (i < longest) }
-    ensures { Column 0 i column.now table.old table.new 6 }
+    ensures { (d : T) → Column d i column.now table.old table.new 6 }
 {
-    let mut k = 0;
-    while k < 6 {
-        table[k * LONGEST + i] = column[k];
-        k += 1;
+    for (k, value) in column.iter().enumerate() {
+        table[k * LONGEST + i] = *value;
     }
 }
 
-fn put_weights(table: &mut [f64], column: &[f64; 6], i: usize)
-    requires { (length table.old ≡ table_size) × (i < longest) }
-    ensures { Column nan i column.now table.old table.new 6 }
-{
-    let mut k = 0;
-    while k < 6 {
-        table[k * LONGEST + i] = column[k];
-        k += 1;
-    }
-}
-
-// The columns of all output indices, and their flags.
-pub(crate) fn fill_table(
-    kept: &mut [bool],
-    at: &mut [usize],
-    weight: &mut [f64],
-    a: Axis,
-    order: usize,
-    mode: BorderMode,
-)
-    requires reaches { Reaches order a }
-    requires out_in_bounds { (a.out ≤ length kept.old) × Tabled order mode a at.old weight.old 0 }
-    ensures { Filled (kept_at mode a) false kept.new a.out × Tabled order mode a at.new weight.new a.out }
-{
-    let n = a.out;
-    let mut i = 0;
-    while i < n {
-        let t = point_at(a, i, order, mode);
-        let p = t.at;
-        let w = t.weight;
-        kept[i] = t.mark.is_kept();
-        put_places(at, &p, i);
-        put_weights(weight, &w, i);
-        i += 1;
+impl Table {
+    // The columns of all output indices, and their flags. A table by value would be copied.
+    pub(crate) fn fill(&mut self, a: Axis, order: usize, mode: BorderMode)
+        requires reaches { Reaches order a }
+        requires start { Tabled order mode a self.old 0 }
+        ensures tabled { Tabled order mode a self.new a.out }
+        ensures width { self.new.width ≡ a.out }
+    {
+        self.width = a.out;
+        for i in 0..a.out {
+            let point = point_at(a, i, order, mode);
+            self.kept[i] = point.mark.is_kept();
+            put_column(&mut self.at, &point.at, i);
+            put_column(&mut self.weight, &point.weight, i);
+        }
     }
 }

@@ -1,26 +1,20 @@
 -- `coverage::cover::drop_value` meets its contract.
-use mathlib.Core.Path.{sym, ap}
-use lib.Ieee.{of_bits, of_int}
+use mathlib.Core.Path.{◌≡◌, refl}
+use lib.Ieee.{Float, of_bits, of_int}
+use Rattle.exact.specs.Rounded.{num}
 use Rattle.border.specs.declared.BorderMode.{BorderMode}
+use Rattle.border.specs.declared.BorderMode.TheVariants.{Constant, Mirror, Nearest, Reflect, Wrap, Replicate}
 use Rattle.coverage.specs.Coverage.{drop_value}
 use Rattle.coverage.proofs.cover.drop_value.Goals as goal
 
-pub returns-in-Mirror : goal.returns-in-Mirror
-unfolding of_bits of_int
-returns-in-Mirror c = sym (ap (λ (m : BorderMode). drop_value m) c.in-Mirror.is)
+zero : (mode : BorderMode) → ((fill : Float) → mode ≡ Constant fill → ⊥) → num 0 ≡ drop_value mode
+zero (Constant fill) h = absurd (h fill refl)
+zero Mirror h = refl
+zero Nearest h = refl
+zero Reflect h = refl
+zero Wrap h = refl
+zero Replicate h = refl
 
-pub returns-in-Nearest : goal.returns-in-Nearest
+pub returns-in_default : goal.returns-in_default
 unfolding of_bits of_int
-returns-in-Nearest c = sym (ap (λ (m : BorderMode). drop_value m) c.in-Nearest.is)
-
-pub returns-in-Reflect : goal.returns-in-Reflect
-unfolding of_bits of_int
-returns-in-Reflect c = sym (ap (λ (m : BorderMode). drop_value m) c.in-Reflect.is)
-
-pub returns-in-Wrap : goal.returns-in-Wrap
-unfolding of_bits of_int
-returns-in-Wrap c = sym (ap (λ (m : BorderMode). drop_value m) c.in-Wrap.is)
-
-pub returns-in-Replicate : goal.returns-in-Replicate
-unfolding of_bits of_int
-returns-in-Replicate c = sym (ap (λ (m : BorderMode). drop_value m) c.in-Replicate.is)
+returns-in_default c = zero c.args.mode c.in_default.not-Constant

@@ -1,4 +1,5 @@
--- `one_voxel::sum::sum_at` meets its contract. The loop's invariant: the sums of the first k neighbours on the last axis, from 0.0 on.
+-- `one_voxel::sum::sum_at` meets its contract: the sums of the first k neighbours on the last axis, from 0.0 on.
+use Prim.Native.Nat.{◌+◌}
 use mathlib.Core.Path.{◌≡◌, refl}
 use native.Mathlib.Omega.{arith}
 use lib.Ieee.{of_bits, of_int}
@@ -8,17 +9,13 @@ use Rattle.one_voxel.proofs.sum.sum_at.Goals as goal
 
 pub loop-k-init : goal.loop-k-init
 unfolding sum_z of_bits of_int
-loop-k-init c = (omega arith, refl)
-
-pub add_y-t-requires : goal.add_y-t-requires
-add_y-t-requires c =
-    let p = c.requires in record { n_bound = (p.n_bound, omega (arith, p.planes_3 c.loop-k.k (omega arith))); planes = p.planes; planes_2 = p.planes_2 }
+loop-k-init c = refl
 
 pub loop-k-preserved : goal.loop-k-preserved
-loop-k-preserved c = (omega arith, turn_z _ _ _ _ _ _ _ _ c.loop-k.invariant.1 refl refl c.add_y-t.ensures)
+loop-k-preserved c = turn_z _ _ _ _ _ _ _ _ c.loop-k.invariant refl refl c.add_y-t.ensures
 
 pub returns : goal.returns
 unfolding sum_at
 returns c =
-    let e : c.loop-k.k ≡ c.args.n = omega arith in
-    rw e at c.loop-k.invariant.1
+    let e : c.loop-k.k ≡ c.args.source.now.order + 1 = omega arith in
+    rw e at c.loop-k.invariant

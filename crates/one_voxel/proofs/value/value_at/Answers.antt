@@ -1,33 +1,29 @@
 -- `one_voxel::value::value_at` meets its contract.
-use Prim.Native.Nat.{◌*◌, ◌+◌}
 use mathlib.Core.Path.{refl, sym, ap, ◌∙◌}
-use native.Mathlib.Omega.{arith}
-use native.Mathlib.Nat.{mul-one, mul-le-mul}
-use lib.ListN.{length, get_or}
+use native.Mathlib.Nat.{mul-one}
+use lib.ListN.{get_or}
 use Rattle.axis.specs.declared.point.Point.{Point}
 use Rattle.voxels.proofs.Sweeping.{point_planes}
 use Rattle.one_voxel.proofs.Voxels.{value_kept, value_dropped}
 use Rattle.one_voxel.proofs.value.value_at.Goals as goal
 
-pub overflow_mul-ya : goal.overflow_mul-ya
-overflow_mul-ya c = let p = c.requires in omega (arith, mul-le-mul p.len_le_longest_padded.0 p.len_le_longest_padded.1)
-
 pub computed_at-requires : goal.computed_at-requires
 computed_at-requires c =
     let a = c.args in
     let reached = c.requires.reached in record {
-      order_bound = reached.0.upto;
-      planes = point_planes a.order a.mode a.xa (get_or a.at 0 0) c.point_at-x.result.at (a.ya.len * a.za.len) (length a.«data».now) (a.order + 1) reached.0 (ap (λ (t : Point). t.at) c.point_at-x.ensures) c.requires.data_len;
-      planes_2 = point_planes a.order a.mode a.ya (get_or a.at 1 0) c.point_at-y.result.at a.za.len (a.ya.len * a.za.len) (a.order + 1) reached.1.0 (ap (λ (t : Point). t.at) c.point_at-y.ensures) refl;
-      planes_3 = point_planes a.order a.mode a.za (get_or a.at 2 0) c.point_at-z.result.at 1 a.za.len (a.order + 1) reached.1.1 (ap (λ (t : Point). t.at) c.point_at-z.ensures) (sym (mul-one a.za.len));
+      in_source = record {
+        planes = point_planes a.order a.mode a.a.x _ _ _ _ _ reached.0 (ap (λ (t : Point). t.at) c.point_at-x.ensures) c.requires.data_len;
+        rows = point_planes a.order a.mode a.a.y _ _ _ _ _ reached.1.0 (ap (λ (t : Point). t.at) c.point_at-y.ensures) refl;
+      };
+      places = point_planes a.order a.mode a.a.z _ _ _ _ _ reached.1.1 (ap (λ (t : Point). t.at) c.point_at-z.ensures) (sym (mul-one a.a.z.len));
     }
 
 pub returns-then-all_kept : goal.returns-then-all_kept
 returns-then-all_kept c =
     let a = c.args in
-    c.computed_at.ensures ∙ value_kept a.order a.mode a.xa a.ya a.za a.«data».now (get_or a.at 0 0) (get_or a.at 1 0) (get_or a.at 2 0) c.point_at-x.ensures c.point_at-y.ensures c.point_at-z.ensures (sym c.all_kept.ensures ∙ c.if-all_kept.true)
+    c.computed_at.ensures ∙ value_kept a.order a.mode a.a.x a.a.y a.a.z a.«data».now (get_or a.at 0 0) (get_or a.at 1 0) (get_or a.at 2 0) c.point_at-x.ensures c.point_at-y.ensures c.point_at-z.ensures (sym c.all_kept.ensures ∙ c.if-all_kept.true)
 
-pub returns : goal.returns
-returns c =
+pub returns-else-all_kept : goal.returns-else-all_kept
+returns-else-all_kept c =
     let a = c.args in
-    c.drop_value.ensures ∙ value_dropped a.order a.mode a.xa a.ya a.za a.«data».now (get_or a.at 0 0) (get_or a.at 1 0) (get_or a.at 2 0) c.point_at-x.ensures c.point_at-y.ensures c.point_at-z.ensures (sym c.all_kept.ensures ∙ c.if-all_kept.false)
+    c.drop_value.ensures ∙ value_dropped a.order a.mode a.a.x a.a.y a.a.z a.«data».now (get_or a.at 0 0) (get_or a.at 1 0) (get_or a.at 2 0) c.point_at-x.ensures c.point_at-y.ensures c.point_at-z.ensures (sym c.all_kept.ensures ∙ c.if-all_kept.false)

@@ -1,13 +1,10 @@
 -- `voxels::sum::add_y` meets its contract. The loop's invariant: each lane has the sums of the first k rows.
-use Prim.Native.Nat.{ℕ, ◌-◌, ◌≤◌}
+use Prim.Native.Nat.{ℕ, ◌+◌}
 use mathlib.Core.Path.{◌≡◌}
 use Rattle.voxels.specs.Sum.{sum_y}
-use Rattle.voxels.specs.Bookkeeping.{number, place}
-use Rattle.voxels.specs.Sum.{lent}
+use Rattle.voxels.specs.Voxel.{tap_of}
+use Rattle.voxels.specs.Bookkeeping.{at_lane}
 use Rattle.voxels.proofs.sum.add_y.Given as goal
 
 abbrev pub invariant-loop-k : goal.invariant-loop-k
-invariant-loop-k l = (l.k ≤ l.n) × ((j : ℕ) → number l.t j ≡ sum_y l.data l.plane l.row l.n (lent l.nx l.wx) (lent l.ny l.wy) (place l.z j) (number l.w j) (number l.initial.t j) l.k)
-
-abbrev pub decreases-loop-k : goal.decreases-loop-k
-decreases-loop-k l = l.n - l.k
+invariant-loop-k l = (j : ℕ) → at_lane l.t j ≡ sum_y l.source.numbers.now l.source.plane l.source.row (l.source.order + 1) (tap_of l.x) (tap_of l.y) (at_lane l.z j) (at_lane l.w j) (at_lane l.initial.t j) l.k

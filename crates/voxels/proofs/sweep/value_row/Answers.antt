@@ -1,19 +1,16 @@
 -- `voxels::sweep::value_row` meets its contract.
-use mathlib.Core.Path.{◌∙◌}
-use mathlib.Core.Bool.{true, false}
-use lib.ListN.{length}
-use Rattle.voxels.specs.Sum.{lent}
-use Rattle.voxels.proofs.Sweeping.{row_by}
+use mathlib.Core.Path.{◌≡◌, sym, ◌∙◌}
+use mathlib.Core.Bool.{false, ◌&&◌}
+use Rattle.axis.specs.Point.{is_kept}
+use Rattle.voxels.proofs.Sweeping.{row_dropped}
+use Rattle.voxels.proofs.sweep.value_row.Goals.{else-is_kept-via-then-is_kept+else-is_kept-2, else-is_kept-via-else-is_kept}
 use Rattle.voxels.proofs.sweep.value_row.Goals as goal
 
-pub returns-then-others : goal.returns-then-others
-returns-then-others c =
+pub returns-else-is_kept : goal.returns-else-is_kept
+returns-else-is_kept c =
     let a = c.args in
-    c.kept_row.ensures
-    ∙ row_by a.order a.mode a.«data».now a.plane a.row a.kept.now a.at.now a.weight.now (lent a.nx.now a.wx.now) (lent a.ny.now a.wy.now) (length a.out.now) a.others true c.drop_value-dropped.result c.if-others.true c.drop_value-dropped.ensures
-
-pub returns-else-others : goal.returns-else-others
-returns-else-others c =
-    let a = c.args in
-    c.fill_row.ensures
-    ∙ row_by a.order a.mode a.«data».now a.plane a.row a.kept.now a.at.now a.weight.now (lent a.nx.now a.wx.now) (lent a.ny.now a.wy.now) (length a.out.now) a.others false c.drop_value-dropped.result c.if-others.false c.drop_value-dropped.ensures
+    let out : (is_kept a.x.now.mark && is_kept a.y.now.mark) ≡ false = elim c.else-is_kept.branch [
+      | else-is_kept-via-then-is_kept+else-is_kept-2 w ↦ simp (sym c.is_kept.ensures ∙ w.if-is_kept.true, sym w.is_kept-then-is_kept.ensures ∙ w.if-is_kept-2.false)
+      | else-is_kept-via-else-is_kept w ↦ simp (sym c.is_kept.ensures ∙ w.if-is_kept.false)
+    ] in
+    c.fill.ensures.after (λ y e. e) ∙ row_dropped a.mode a.source.now a.table.now a.x.now a.y.now c.requires.out_len.0 c.drop_value-dropped.ensures out
