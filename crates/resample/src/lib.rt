@@ -17,6 +17,8 @@ use request::sizes::{shift_axes, zoom_axes, zoom_dims};
 
 mod write;
 
+pub use refusal::number_in;
+
 // The counts of an answer: none of a refusal.
 pub fn counts_in(answer: Result<Counts, Refusal>) -> Counts
     ensures { result ≡ counts_in answer }

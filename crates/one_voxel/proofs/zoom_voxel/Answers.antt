@@ -17,7 +17,7 @@ use Rattle.one_voxel.specs.Bookkeeping.{Inside}
 use Rattle.one_voxel.proofs.Voxels.{voxel_passed, voxel_refused}
 use Rattle.one_voxel.proofs.zoom_voxel.Goals.{In_ok-zoom_voxel_verdict}
 use Rattle.one_voxel.proofs.zoom_voxel.Goals as goal
-use Rattle.std.specs.Prelude.{Ok, Err}
+use Rattle.std.specs.Prelude.{Ok}
 
 -- nothing was refused
 module _ (c : In_ok-zoom_voxel_verdict) where

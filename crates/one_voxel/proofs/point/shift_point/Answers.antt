@@ -13,7 +13,7 @@ use Rattle.one_voxel.specs.Points.{shift_point_call}
 use Rattle.one_voxel.proofs.Points.{point_passed, point_refused}
 use Rattle.one_voxel.proofs.point.shift_point.Goals.{After-shift_axis-a, In_ok-shift_point_verdict}
 use Rattle.one_voxel.proofs.point.shift_point.Goals as goal
-use Rattle.std.specs.Prelude.{Ok, Err}
+use Rattle.std.specs.Prelude.{Ok}
 
 -- nothing was refused
 module _ (c : In_ok-shift_point_verdict) where

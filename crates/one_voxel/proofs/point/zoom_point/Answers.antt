@@ -15,7 +15,7 @@ use Rattle.one_voxel.specs.Points.{zoom_point_call}
 use Rattle.one_voxel.proofs.Points.{point_passed, point_refused}
 use Rattle.one_voxel.proofs.point.zoom_point.Goals.{After-zoom_axis-a, In_ok-zoom_point_verdict}
 use Rattle.one_voxel.proofs.point.zoom_point.Goals as goal
-use Rattle.std.specs.Prelude.{Ok, Err}
+use Rattle.std.specs.Prelude.{Ok}
 
 -- nothing was refused
 module _ (c : In_ok-zoom_point_verdict) where
