@@ -15,10 +15,12 @@ fn put(counts: &mut [u64], c: Counts)
     requires { length counts.old ≡ places }
     ensures { counts.new ≡ tally c }
 {
-    counts[0] = c.computed as u64;
-    counts[1] = c.filled as u64;
-    counts[2] = c.defaulted as u64;
-    counts[3] = c.folded as u64;
+    counts.copy_from_slice(&[
+        c.computed as u64,
+        c.filled as u64,
+        c.defaulted as u64,
+        c.folded as u64,
+    ]);
 }
 
 // The answer's number; its counts are written.
@@ -31,6 +33,7 @@ pub fn report(counts: &mut [u64], answer: Result<Counts, Refusal>) -> u32
 }
 
 // Zeros, where there is a place for each code.
+#[tactic(auto, unfolding(crate::specs::Numbers::cleared))]
 pub fn clear(counts: &mut [u64])
     ensures { counts.new ≡ cleared counts.old }
 {

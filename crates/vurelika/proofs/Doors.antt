@@ -1,7 +1,7 @@
 -- The door's definitions, by the ways that the code goes.
 use Prim.Native.Nat.{ℕ}
-use mathlib.Core.Path.{◌≡◌, ap, ◌∙◌}
-use mathlib.Core.Bool.{true, false, not}
+use mathlib.Core.Path.{◌≡◌, refl, sym, ap, ◌∙◌}
+use mathlib.Core.Bool.{Bool, true, false, not, cond, true≢false}
 use mathlib.Core.List.{List, [], ◌++◌}
 use lib.Dec.{eqb}
 use lib.ListN.{length}
@@ -18,9 +18,18 @@ use Rattle.npy.specs.Call.{NpyCall, npy_call_of}
 use Rattle.numbers.specs.Numbers.{is_mode, mode_of, places, tally, cleared}
 use Rattle.vurelika.specs.Door.{unknown_mode, Entry, door_of, answered, door_by, filter_door_of, filter_door_by, voxel_door_of, voxel_door_by, Pointing, point_door_of, point_door_by, npy_door_of, npy_door}
 use Rattle.vurelika.proofs.Empty.{EmptyRefused}
-use Rattle.std.specs.Prelude.{Result, Err, ⊤}
+use Rattle.std.specs.Prelude.{Result, Err, ⊤, Option, Some, None, is_some, unwrap_or}
 use Rattle.refusal.specs.declared.Refusal.{Refusal}
 use Rattle.coverage.specs.declared.counts.Counts.{Counts}
+
+-- ---- what a mode's number says: v is what is asked for
+pub asked_for : {T : Type 0} (known : Bool) {v w : T} → Some w ≡ cond known (Some v) None → (known ≡ true) × (w ≡ v)
+asked_for {T} true {v} {w} e = (refl, ap (λ (o : Option T). unwrap_or o w) e)
+asked_for {T} false e = absurd (true≢false (ap (λ (o : Option T). is_some o) e))
+
+pub unnumbered : {T : Type 0} (known : Bool) (v : T) → None ≡ cond known (Some v) None → known ≡ false
+unnumbered {T} true v e = absurd (true≢false (sym (ap (λ (o : Option T). is_some o) e)))
+unnumbered {T} false v e = refl
 
 -- ---- shift and zoom
 module _ (entry : Entry) (mode : ℕ) (r : Request) (input output : List Float) (coverage : List ℕ) (work : List Float) (counts : List ℕ) where
