@@ -1,6 +1,4 @@
 -- `vurelika::vurelika_shift` meets its contract.
-use mathlib.Core.Path.{sym, ◌∙◌}
-use Rattle.request.specs.declared.Request.{Request}
 use Rattle.resample.specs.Call.{shift_call}
 use Rattle.numbers.specs.Numbers.{request_of}
 use Rattle.vurelika.proofs.Empty.{empty_refused_shift}

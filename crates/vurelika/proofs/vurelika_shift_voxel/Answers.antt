@@ -1,5 +1,4 @@
 -- `vurelika::vurelika_shift_voxel` meets its contract.
-use mathlib.Core.Path.{sym, ◌∙◌}
 use mathlib.Core.List.{[], ◌∷◌}
 use Rattle.request.specs.declared.Request.{Request}
 use Rattle.one_voxel.specs.Call.{shift_voxel_call}

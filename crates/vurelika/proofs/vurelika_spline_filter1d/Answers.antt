@@ -1,5 +1,4 @@
 -- `vurelika::vurelika_spline_filter1d` meets its contract.
-use mathlib.Core.Path.{sym, ◌∙◌}
 use Rattle.request.specs.declared.Request.{Request}
 use Rattle.resample.specs.Call.{spline_filter1d_call}
 use Rattle.numbers.specs.Numbers.{plain_request_of}

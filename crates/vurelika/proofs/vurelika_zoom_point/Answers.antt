@@ -1,5 +1,4 @@
 -- `vurelika::vurelika_zoom_point` meets its contract: the literal 0.0 is the number 0.
-use mathlib.Core.Path.{sym, ◌∙◌}
 use lib.Ieee.{of_bits, of_int}
 use Rattle.vurelika.specs.Door.{zoom_pointing}
 use Rattle.vurelika.proofs.Doors.{asked_for, unnumbered, point_answers, point_unknown}

@@ -1,5 +1,4 @@
 -- `vurelika::vurelika_zoom_voxel` meets its contract.
-use mathlib.Core.Path.{sym, ◌∙◌}
 use mathlib.Core.List.{[], ◌∷◌}
 use Rattle.request.specs.declared.Request.{Request}
 use Rattle.one_voxel.specs.Call.{zoom_voxel_call}
