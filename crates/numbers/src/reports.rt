@@ -1,10 +1,12 @@
 // What a caller is told: a number, and counts.
 ghost use Rattle.std.specs.Prelude.{◌≡◌, length};
-ghost use Rattle.resample.specs.Call.{number_in, counts_in};
+ghost use Rattle.refusal.specs.Refusals.{number_in};
+ghost use Rattle.resample.specs.Call.{counts_in};
 ghost use Rattle.numbers.specs.Numbers.{places, tally, cleared};
 
 use coverage::counts::Counts;
-use resample::{Answer, counts_in, number_in};
+use refusal::{Refusal, number_in};
+use resample::counts_in;
 
 // The places of `counts`: one for each code.
 pub const PLACES: usize = 4;
@@ -13,14 +15,16 @@ fn put(counts: &mut [u64], c: Counts)
     requires { length counts.old ≡ places }
     ensures { counts.new ≡ tally c }
 {
-    counts[0] = c.computed as u64;
-    counts[1] = c.filled as u64;
-    counts[2] = c.defaulted as u64;
-    counts[3] = c.folded as u64;
+    counts.copy_from_slice(&[
+        c.computed as u64,
+        c.filled as u64,
+        c.defaulted as u64,
+        c.folded as u64,
+    ]);
 }
 
 // The answer's number; its counts are written.
-pub fn report(counts: &mut [u64], answer: Answer) -> u32
+pub fn report(counts: &mut [u64], answer: Result<Counts, Refusal>) -> u32
     requires { length counts.old ≡ places }
     ensures { (result ≡ number_in answer) × (counts.new ≡ tally (counts_in answer)) }
 {
@@ -29,6 +33,7 @@ pub fn report(counts: &mut [u64], answer: Answer) -> u32
 }
 
 // Zeros, where there is a place for each code.
+#[tactic(auto, unfolding(crate::specs::Numbers::cleared))]
 pub fn clear(counts: &mut [u64])
     ensures { counts.new ≡ cleared counts.old }
 {

@@ -1,5 +1,5 @@
 // The request that a caller's numbers make.
-ghost use Rattle.std.specs.Prelude.{◌≡◌};
+ghost use Rattle.std.specs.Prelude.{◌≡◌, cond, Some, None};
 ghost use Rattle.numbers.specs.Numbers.{is_mode, mode_of, request_of, plain_request_of};
 
 use border::BorderMode;
@@ -22,6 +22,13 @@ pub fn mode_of(mode: u32, fill: f64) -> BorderMode
         4 => BorderMode::Wrap,
         _ => BorderMode::Replicate,
     }
+}
+
+// The mode of a number, where it is one.
+pub fn mode_in(mode: u32, fill: f64) -> Option<BorderMode>
+    ensures { result ≡ cond (is_mode mode) (Some (mode_of mode fill)) None }
+{
+    is_mode(mode).then(|| mode_of(mode, fill))
 }
 
 pub fn request_of(
@@ -60,4 +67,36 @@ pub fn plain_request_of(
     ensures { result ≡ plain_request_of d0 d1 d2 order prefilter mode fill }
 {
     request_of(d0, d1, d2, 0.0, 0.0, 0.0, order, prefilter, mode, fill)
+}
+
+// The two requests, where the mode has a number.
+pub fn request_in(
+    d0: usize,
+    d1: usize,
+    d2: usize,
+    f0: f64,
+    f1: f64,
+    f2: f64,
+    order: usize,
+    prefilter: u32,
+    mode: u32,
+    fill: f64,
+) -> Option<Request>
+    ensures { result ≡ cond (is_mode mode) (Some (request_of d0 d1 d2 f0 f1 f2 order prefilter mode fill)) None }
+{
+    is_mode(mode).then(|| request_of(d0, d1, d2, f0, f1, f2, order, prefilter, mode, fill))
+}
+
+pub fn plain_request_in(
+    d0: usize,
+    d1: usize,
+    d2: usize,
+    order: usize,
+    prefilter: u32,
+    mode: u32,
+    fill: f64,
+) -> Option<Request>
+    ensures { result ≡ cond (is_mode mode) (Some (plain_request_of d0 d1 d2 order prefilter mode fill)) None }
+{
+    is_mode(mode).then(|| plain_request_of(d0, d1, d2, order, prefilter, mode, fill))
 }

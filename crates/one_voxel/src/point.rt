@@ -7,24 +7,10 @@ ghost use Rattle.axis.specs.Bookkeeping.{Reached};
 ghost use Rattle.one_voxel.specs.Points.{point_call_of, shift_point_call, zoom_point_call};
 
 use axis::coordinate::{Axis, output_length, pad_of, settled_at, shift_axis, zoom_axis};
-use axis::point::{Point, point_at};
+use axis::point::point_at;
 use border::BorderMode;
-use refusal::Verdict;
+use refusal::Refusal;
 use refusal::points::{shift_point_verdict, zoom_point_verdict};
-
-fn put_six(at: &mut [usize], weight: &mut [f64], p: Point)
-    requires { (length at.old ≡ 6) × (length weight.old ≡ 6) }
-    ensures { (at.new ≡ p.at) × (weight.new ≡ p.weight) }
-{
-    let n = p.at;
-    let w = p.weight;
-    let mut k = 0;
-    while k < 6 {
-        at[k] = n[k];
-        weight[k] = w[k];
-        k += 1;
-    }
-}
 
 fn put_point(
     order: usize,
@@ -40,7 +26,9 @@ fn put_point(
     ensures { (coordinate.new ≡ settled mode a i ∷ []) × ((at.new ≡ (point_at order mode a i).at) × (weight.new ≡ (point_at order mode a i).weight)) }
 {
     coordinate[0] = settled_at(a, i, mode);
-    put_six(at, weight, point_at(a, i, order, mode));
+    let p = point_at(a, i, order, mode);
+    at.copy_from_slice(&p.at);
+    weight.copy_from_slice(&p.weight);
 }
 
 pub fn shift_point(
@@ -53,10 +41,10 @@ pub fn shift_point(
     coordinate: &mut [f64],
     at: &mut [usize],
     weight: &mut [f64],
-) -> Verdict
+) -> Result<(), Refusal>
     ensures { point_call_of result coordinate.new at.new weight.new ≡ shift_point_call length shift order prefilter mode i coordinate.old at.old weight.old }
 {
-    match shift_point_verdict(
+    shift_point_verdict(
         length,
         shift,
         order,
@@ -66,14 +54,10 @@ pub fn shift_point(
         coordinate.len(),
         at.len(),
         weight.len(),
-    ) {
-        Verdict::Passed => {
-            let a = shift_axis(length, shift, pad_of(mode, prefilter, order, length));
-            put_point(order, mode, a, i, coordinate, at, weight);
-            Verdict::Passed
-        }
-        Verdict::Refused(why) => Verdict::Refused(why),
-    }
+    )?;
+    let a = shift_axis(length, shift, pad_of(mode, prefilter, order, length));
+    put_point(order, mode, a, i, coordinate, at, weight);
+    Ok(())
 }
 
 pub fn zoom_point(
@@ -86,10 +70,10 @@ pub fn zoom_point(
     coordinate: &mut [f64],
     at: &mut [usize],
     weight: &mut [f64],
-) -> Verdict
+) -> Result<(), Refusal>
     ensures { point_call_of result coordinate.new at.new weight.new ≡ zoom_point_call length factor order prefilter mode i coordinate.old at.old weight.old }
 {
-    match zoom_point_verdict(
+    zoom_point_verdict(
         length,
         factor,
         order,
@@ -99,16 +83,12 @@ pub fn zoom_point(
         coordinate.len(),
         at.len(),
         weight.len(),
-    ) {
-        Verdict::Passed => {
-            let a = zoom_axis(
-                length,
-                output_length(length, factor),
-                pad_of(mode, prefilter, order, length),
-            );
-            put_point(order, mode, a, i, coordinate, at, weight);
-            Verdict::Passed
-        }
-        Verdict::Refused(why) => Verdict::Refused(why),
-    }
+    )?;
+    let a = zoom_axis(
+        length,
+        output_length(length, factor),
+        pad_of(mode, prefilter, order, length),
+    );
+    put_point(order, mode, a, i, coordinate, at, weight);
+    Ok(())
 }

@@ -4,7 +4,7 @@ ghost use Rattle.request.specs.Bookkeeping.{Lengths};
 ghost use Rattle.request.specs.Conditions.{too_large, wrong, wild_fill, some_wild, beside_any};
 ghost use Rattle.refusal.specs.Refusals.{first, places_of, resample_checks, shift_checks, zoom_checks, index_checks, shift_voxel_checks, zoom_voxel_checks, filter_checks, spline_filter_checks, spline_filter1d_checks};
 
-use crate::{Asked, Refusal, Verdict};
+use crate::{Asked, Refusal, refuse_if};
 use axis::point::some_beside;
 use border::BorderMode;
 use limits::MOST_PLACES;
@@ -24,13 +24,7 @@ fn too_large(n: usize) -> bool
 fn some_too_large(input: usize, output: usize, work: usize) -> bool
     ensures { result ≡ (too_large input || too_large output || too_large work) }
 {
-    if too_large(input) {
-        return true;
-    }
-    if too_large(output) {
-        return true;
-    }
-    too_large(work)
+    too_large(input) || too_large(output) || too_large(work)
 }
 
 // The lengths of the lent buffers against their counts.
@@ -45,41 +39,21 @@ fn some_wrong(
 ) -> bool
     ensures { result ≡ (wrong input count || wrong output wanted || wrong coverage wanted || ltb work need) }
 {
-    if input != count {
-        return true;
-    }
-    if output != wanted {
-        return true;
-    }
-    if coverage != wanted {
-        return true;
-    }
-    work < need
+    input != count || output != wanted || coverage != wanted || work < need
 }
 
 fn wild_any(mode: BorderMode, input: &[f64]) -> bool
     ensures { result ≡ (wild_fill mode || some_wild input.now) }
 {
-    if wild_fill(mode) {
-        return true;
-    }
-    some_wild(input)
+    wild_fill(mode) || some_wild(input)
 }
 
+#[tactic(auto, unfolding(request::specs::Conditions::beside_any))]
 fn beside_any(r: Request, a: Axes) -> bool
     ensures { result ≡ beside_any r a }
 {
-    if r.order != 0 {
-        return false;
-    }
     let mode = r.mode;
-    if some_beside(a.x, mode) {
-        return true;
-    }
-    if some_beside(a.y, mode) {
-        return true;
-    }
-    some_beside(a.z, mode)
+    r.order == 0 && (some_beside(a.x, mode) || some_beside(a.y, mode) || some_beside(a.z, mode))
 }
 
 // How many places are lent for values, and as many for codes; `count` is the output's.
@@ -102,7 +76,7 @@ fn resample_verdict(
     work: usize,
     out: [usize; 3],
     a: Axes,
-) -> Verdict
+) -> Result<(), Refusal>
     requires lengths { Lengths r.dims }
     requires lengths_2 { Lengths out }
     ensures { result ≡ first (resample_checks asked r input.now output coverage work out a) }
@@ -112,20 +86,14 @@ fn resample_verdict(
     let count = count_of(dims);
     let wanted = count_of(out);
     let need = needed(r);
-    if some_too_large(count, wanted, need) {
-        return Verdict::Refused(Refusal::Count);
-    }
+    refuse_if(some_too_large(count, wanted, need), Refusal::Count)?;
     let places = places_of(asked, wanted);
-    if some_wrong(input.len(), count, output, coverage, places, work, need) {
-        return Verdict::Refused(Refusal::Buffer);
-    }
-    if wild_any(mode, input) {
-        return Verdict::Refused(Refusal::Value);
-    }
-    if beside_any(r, a) {
-        return Verdict::Refused(Refusal::Beside);
-    }
-    Verdict::Passed
+    refuse_if(
+        some_wrong(input.len(), count, output, coverage, places, work, need),
+        Refusal::Buffer,
+    )?;
+    refuse_if(wild_any(mode, input), Refusal::Value)?;
+    refuse_if(beside_any(r, a), Refusal::Beside)
 }
 
 pub fn shift_verdict(
@@ -135,23 +103,15 @@ pub fn shift_verdict(
     output: usize,
     coverage: usize,
     work: usize,
-) -> Verdict
+) -> Result<(), Refusal>
     ensures { result ≡ first (shift_checks asked r input.now output coverage work) }
 {
     let dims = r.dims;
     let factors = r.factors;
-    if r.order > 5 {
-        return Verdict::Refused(Refusal::Order);
-    }
-    if bad_lengths(dims) {
-        return Verdict::Refused(Refusal::Length);
-    }
-    if bad_shifts(factors) {
-        return Verdict::Refused(Refusal::Factor);
-    }
-    if moves_slices(dims, factors) {
-        return Verdict::Refused(Refusal::Slice);
-    }
+    refuse_if(r.order > 5, Refusal::Order)?;
+    refuse_if(bad_lengths(dims), Refusal::Length)?;
+    refuse_if(bad_shifts(factors), Refusal::Factor)?;
+    refuse_if(moves_slices(dims, factors), Refusal::Slice)?;
     resample_verdict(asked, r, input, output, coverage, work, dims, shift_axes(r))
 }
 
@@ -162,27 +122,17 @@ pub fn zoom_verdict(
     output: usize,
     coverage: usize,
     work: usize,
-) -> Verdict
+) -> Result<(), Refusal>
     ensures { result ≡ first (zoom_checks asked r input.now output coverage work) }
 {
     let dims = r.dims;
     let factors = r.factors;
-    if r.order > 5 {
-        return Verdict::Refused(Refusal::Order);
-    }
-    if bad_lengths(dims) {
-        return Verdict::Refused(Refusal::Length);
-    }
-    if bad_zooms(factors) {
-        return Verdict::Refused(Refusal::Factor);
-    }
+    refuse_if(r.order > 5, Refusal::Order)?;
+    refuse_if(bad_lengths(dims), Refusal::Length)?;
+    refuse_if(bad_zooms(factors), Refusal::Factor)?;
     let out = zoom_dims(r);
-    if zooms_slices(dims, out) {
-        return Verdict::Refused(Refusal::Slice);
-    }
-    if bad_outputs(dims, out) {
-        return Verdict::Refused(Refusal::OutputLength);
-    }
+    refuse_if(zooms_slices(dims, out), Refusal::Slice)?;
+    refuse_if(bad_outputs(dims, out), Refusal::OutputLength)?;
     resample_verdict(
         asked,
         r,
@@ -196,13 +146,10 @@ pub fn zoom_verdict(
 }
 
 // Refusal 11 of one voxel.
-fn index_verdict(out: [usize; 3], at: [usize; 3]) -> Verdict
+fn index_verdict(out: [usize; 3], at: [usize; 3]) -> Result<(), Refusal>
     ensures { result ≡ first (index_checks out at) }
 {
-    if bad_indices(out, at) {
-        return Verdict::Refused(Refusal::Index);
-    }
-    Verdict::Passed
+    refuse_if(bad_indices(out, at), Refusal::Index)
 }
 
 pub fn shift_voxel_verdict(
@@ -212,14 +159,12 @@ pub fn shift_voxel_verdict(
     code: usize,
     work: usize,
     at: [usize; 3],
-) -> Verdict
+) -> Result<(), Refusal>
     ensures { result ≡ first (shift_voxel_checks r input.now value code work at) }
 {
     let dims = r.dims;
-    match shift_verdict(Asked::Voxel, r, input, value, code, work) {
-        Verdict::Passed => index_verdict(dims, at),
-        Verdict::Refused(why) => Verdict::Refused(why),
-    }
+    shift_verdict(Asked::Voxel, r, input, value, code, work)?;
+    index_verdict(dims, at)
 }
 
 pub fn zoom_voxel_verdict(
@@ -229,60 +174,42 @@ pub fn zoom_voxel_verdict(
     code: usize,
     work: usize,
     at: [usize; 3],
-) -> Verdict
+) -> Result<(), Refusal>
     ensures { result ≡ first (zoom_voxel_checks r input.now value code work at) }
 {
-    match zoom_verdict(Asked::Voxel, r, input, value, code, work) {
-        Verdict::Passed => index_verdict(zoom_dims(r), at),
-        Verdict::Refused(why) => Verdict::Refused(why),
-    }
+    zoom_verdict(Asked::Voxel, r, input, value, code, work)?;
+    index_verdict(zoom_dims(r), at)
 }
 
 // Refusals 3 and 6 to 8 of the two filters.
-fn filter_verdict(r: Request, input: &[f64], output: usize) -> Verdict
+fn filter_verdict(r: Request, input: &[f64], output: usize) -> Result<(), Refusal>
     ensures { result ≡ first (filter_checks r input.now output) }
 {
     let dims = r.dims;
     let mode = r.mode;
-    if bad_lengths(dims) {
-        return Verdict::Refused(Refusal::Length);
-    }
+    refuse_if(bad_lengths(dims), Refusal::Length)?;
     let count = count_of(dims);
-    if too_large(count) {
-        return Verdict::Refused(Refusal::Count);
-    }
-    if input.len() != count {
-        return Verdict::Refused(Refusal::Buffer);
-    }
-    if output != count {
-        return Verdict::Refused(Refusal::Buffer);
-    }
-    if wild_any(mode, input) {
-        return Verdict::Refused(Refusal::Value);
-    }
-    Verdict::Passed
+    refuse_if(too_large(count), Refusal::Count)?;
+    refuse_if(input.len() != count || output != count, Refusal::Buffer)?;
+    refuse_if(wild_any(mode, input), Refusal::Value)
 }
 
-pub fn spline_filter_verdict(r: Request, input: &[f64], output: usize) -> Verdict
+pub fn spline_filter_verdict(r: Request, input: &[f64], output: usize) -> Result<(), Refusal>
     ensures { result ≡ first (spline_filter_checks r input.now output) }
 {
-    if r.order < 2 {
-        return Verdict::Refused(Refusal::Order);
-    }
-    if r.order > 5 {
-        return Verdict::Refused(Refusal::Order);
-    }
+    refuse_if(r.order < 2 || r.order > 5, Refusal::Order)?;
     filter_verdict(r, input, output)
 }
 
-pub fn spline_filter1d_verdict(r: Request, axis: usize, input: &[f64], output: usize) -> Verdict
+pub fn spline_filter1d_verdict(
+    r: Request,
+    axis: usize,
+    input: &[f64],
+    output: usize,
+) -> Result<(), Refusal>
     ensures { result ≡ first (spline_filter1d_checks r axis input.now output) }
 {
-    if r.order > 5 {
-        return Verdict::Refused(Refusal::Order);
-    }
-    if axis > 2 {
-        return Verdict::Refused(Refusal::AxisNumber);
-    }
+    refuse_if(r.order > 5, Refusal::Order)?;
+    refuse_if(axis > 2, Refusal::AxisNumber)?;
     filter_verdict(r, input, output)
 }

@@ -17,7 +17,7 @@ pub fn count_of(d: [usize; 3]) -> usize
 pub fn filters(r: Request) -> bool
     ensures { result ≡ filters r }
 {
-    if r.prefilter { r.order > 1 } else { false }
+    r.prefilter && r.order > 1
 }
 
 // How many edge copies stand on each side of an axis.
@@ -25,17 +25,14 @@ pub fn padding(r: Request, axis: usize) -> usize
     requires { axis < 3 }
     ensures { result ≡ padding r axis }
 {
-    let d = r.dims;
-    let mode = r.mode;
-    pad_of(mode, r.prefilter, r.order, d[axis])
+    pad_of(r.mode, r.prefilter, r.order, r.dims[axis])
 }
 
 fn source_length(r: Request, axis: usize) -> usize
     requires { Lengths r.dims × (axis < 3) }
     ensures { result ≡ source_length r axis }
 {
-    let d = r.dims;
-    d[axis] + 2 * padding(r, axis)
+    r.dims[axis] + 2 * padding(r, axis)
 }
 
 // The lengths of what the sums read.

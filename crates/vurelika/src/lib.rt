@@ -11,13 +11,13 @@ ghost use Rattle.vurelika.specs.Door.{door_of, door_by, filter_door_of, filter_d
 
 use axis::coordinate::output_length;
 use numbers::reports::{PLACES, clear, report};
-use numbers::requests::{is_mode, mode_of, plain_request_of, request_of};
+use numbers::requests::{is_mode, mode_in, plain_request_in, plain_request_of, request_in};
 use one_voxel::point::{shift_point, zoom_point};
 use one_voxel::{shift_voxel, zoom_voxel};
-use refusal::number_by;
+use refusal::number_in;
 use request::conditions::{bad_length, bad_lengths, bad_output, bad_zoom, zooms_slice};
 use request::sizes::needed;
-use resample::{number_in, shift, spline_filter, spline_filter1d, zoom};
+use resample::{shift, spline_filter, spline_filter1d, zoom};
 
 // The answer to a mode that has no number.
 const UNKNOWN_MODE: u32 = 255;
@@ -42,17 +42,19 @@ pub extern "C" fn vurelika_shift(
 ) -> u32
     ensures { door_of result output.new coverage.new work.new counts.new ≡ door_by shift_call mode (request_of d0 d1 d2 f0 f1 f2 order prefilter mode fill) input.now output.old coverage.old work.old counts.old }
 {
-    if is_mode(mode) {
-        let r = request_of(d0, d1, d2, f0, f1, f2, order, prefilter, mode, fill);
-        if counts.len() == PLACES {
-            report(counts, shift(r, input, output, coverage, work))
-        } else {
-            // no request has an empty output: the entry refuses
-            number_in(shift(r, input, &mut output[0..0], coverage, work))
+    match request_in(d0, d1, d2, f0, f1, f2, order, prefilter, mode, fill) {
+        Some(r) => {
+            if counts.len() == PLACES {
+                report(counts, shift(r, input, output, coverage, work))
+            } else {
+                // no request has an empty output: the entry refuses
+                number_in(shift(r, input, &mut output[0..0], coverage, work))
+            }
         }
-    } else {
-        clear(counts);
-        UNKNOWN_MODE
+        None => {
+            clear(counts);
+            UNKNOWN_MODE
+        }
     }
 }
 
@@ -76,17 +78,19 @@ pub extern "C" fn vurelika_zoom(
 ) -> u32
     ensures { door_of result output.new coverage.new work.new counts.new ≡ door_by zoom_call mode (request_of d0 d1 d2 f0 f1 f2 order prefilter mode fill) input.now output.old coverage.old work.old counts.old }
 {
-    if is_mode(mode) {
-        let r = request_of(d0, d1, d2, f0, f1, f2, order, prefilter, mode, fill);
-        if counts.len() == PLACES {
-            report(counts, zoom(r, input, output, coverage, work))
-        } else {
-            // no request has an empty output: the entry refuses
-            number_in(zoom(r, input, &mut output[0..0], coverage, work))
+    match request_in(d0, d1, d2, f0, f1, f2, order, prefilter, mode, fill) {
+        Some(r) => {
+            if counts.len() == PLACES {
+                report(counts, zoom(r, input, output, coverage, work))
+            } else {
+                // no request has an empty output: the entry refuses
+                number_in(zoom(r, input, &mut output[0..0], coverage, work))
+            }
         }
-    } else {
-        clear(counts);
-        UNKNOWN_MODE
+        None => {
+            clear(counts);
+            UNKNOWN_MODE
+        }
     }
 }
 
@@ -103,11 +107,9 @@ pub extern "C" fn vurelika_spline_filter(
 ) -> u32
     ensures { filter_door_of result output.new ≡ filter_door_by mode (spline_filter_call (plain_request_of d0 d1 d2 order 0 mode fill) input.now output.old) output.old }
 {
-    if is_mode(mode) {
-        let r = plain_request_of(d0, d1, d2, order, 0, mode, fill);
-        number_by(spline_filter(r, input, output))
-    } else {
-        UNKNOWN_MODE
+    match plain_request_in(d0, d1, d2, order, 0, mode, fill) {
+        Some(r) => number_in(spline_filter(r, input, output)),
+        None => UNKNOWN_MODE,
     }
 }
 
@@ -125,11 +127,9 @@ pub extern "C" fn vurelika_spline_filter1d(
 ) -> u32
     ensures { filter_door_of result output.new ≡ filter_door_by mode (spline_filter1d_call (plain_request_of d0 d1 d2 order 0 mode fill) axis input.now output.old) output.old }
 {
-    if is_mode(mode) {
-        let r = plain_request_of(d0, d1, d2, order, 0, mode, fill);
-        number_by(spline_filter1d(r, axis, input, output))
-    } else {
-        UNKNOWN_MODE
+    match plain_request_in(d0, d1, d2, order, 0, mode, fill) {
+        Some(r) => number_in(spline_filter1d(r, axis, input, output)),
+        None => UNKNOWN_MODE,
     }
 }
 
@@ -155,11 +155,9 @@ pub extern "C" fn vurelika_shift_voxel(
 ) -> u32
     ensures { voxel_door_of result value.new code.new ≡ voxel_door_by mode (shift_voxel_call (request_of d0 d1 d2 f0 f1 f2 order prefilter mode fill) input.now work.now (x ∷ y ∷ z ∷ []) value.old code.old) value.old code.old }
 {
-    if is_mode(mode) {
-        let r = request_of(d0, d1, d2, f0, f1, f2, order, prefilter, mode, fill);
-        number_by(shift_voxel(r, input, work, [x, y, z], value, code))
-    } else {
-        UNKNOWN_MODE
+    match request_in(d0, d1, d2, f0, f1, f2, order, prefilter, mode, fill) {
+        Some(r) => number_in(shift_voxel(r, input, work, [x, y, z], value, code)),
+        None => UNKNOWN_MODE,
     }
 }
 
@@ -185,11 +183,9 @@ pub extern "C" fn vurelika_zoom_voxel(
 ) -> u32
     ensures { voxel_door_of result value.new code.new ≡ voxel_door_by mode (zoom_voxel_call (request_of d0 d1 d2 f0 f1 f2 order prefilter mode fill) input.now work.now (x ∷ y ∷ z ∷ []) value.old code.old) value.old code.old }
 {
-    if is_mode(mode) {
-        let r = request_of(d0, d1, d2, f0, f1, f2, order, prefilter, mode, fill);
-        number_by(zoom_voxel(r, input, work, [x, y, z], value, code))
-    } else {
-        UNKNOWN_MODE
+    match request_in(d0, d1, d2, f0, f1, f2, order, prefilter, mode, fill) {
+        Some(r) => number_in(zoom_voxel(r, input, work, [x, y, z], value, code)),
+        None => UNKNOWN_MODE,
     }
 }
 
@@ -208,20 +204,21 @@ pub extern "C" fn vurelika_shift_point(
 ) -> u32
     ensures { point_door_of result coordinate.new neighbours.new weights.new ≡ point_door_by (shift_pointing length shift order index) prefilter mode coordinate.old neighbours.old weights.old }
 {
-    if is_mode(mode) {
-        number_by(shift_point(
-            length,
-            shift,
-            order,
-            prefilter != 0,
-            mode_of(mode, 0.0),
-            index,
-            coordinate,
-            neighbours,
-            weights,
-        ))
-    } else {
-        UNKNOWN_MODE
+    match mode_in(mode, 0.0) {
+        Some(mode) => {
+            number_in(shift_point(
+                length,
+                shift,
+                order,
+                prefilter != 0,
+                mode,
+                index,
+                coordinate,
+                neighbours,
+                weights,
+            ))
+        }
+        None => UNKNOWN_MODE,
     }
 }
 
@@ -239,20 +236,21 @@ pub extern "C" fn vurelika_zoom_point(
 ) -> u32
     ensures { point_door_of result coordinate.new neighbours.new weights.new ≡ point_door_by (zoom_pointing length factor order index) prefilter mode coordinate.old neighbours.old weights.old }
 {
-    if is_mode(mode) {
-        number_by(zoom_point(
-            length,
-            factor,
-            order,
-            prefilter != 0,
-            mode_of(mode, 0.0),
-            index,
-            coordinate,
-            neighbours,
-            weights,
-        ))
-    } else {
-        UNKNOWN_MODE
+    match mode_in(mode, 0.0) {
+        Some(mode) => {
+            number_in(zoom_point(
+                length,
+                factor,
+                order,
+                prefilter != 0,
+                mode,
+                index,
+                coordinate,
+                neighbours,
+                weights,
+            ))
+        }
+        None => UNKNOWN_MODE,
     }
 }
 
@@ -261,14 +259,14 @@ pub extern "C" fn vurelika_zoom_point(
 pub extern "C" fn vurelika_npy_dims(bytes: &[u8], dims: &mut [usize]) -> u32
     ensures { npy_door_of result dims.new ≡ npy_door (dims_call bytes.now dims.old) }
 {
-    number_by(npy::dims(bytes, dims))
+    number_in(npy::dims(bytes, dims))
 }
 
 #[unsafe(no_mangle)]
 pub extern "C" fn vurelika_npy_read(bytes: &[u8], volume: &mut [u64]) -> u32
     ensures { npy_door_of result volume.new ≡ npy_door (read_call bytes.now volume.old) }
 {
-    number_by(npy::read(bytes, volume))
+    number_in(npy::read(bytes, volume))
 }
 
 #[unsafe(no_mangle)]
@@ -288,7 +286,7 @@ pub extern "C" fn vurelika_npy_write(
 ) -> u32
     ensures { npy_door_of result bytes.new ≡ npy_door (write_call (d0 ∷ d1 ∷ d2 ∷ []) volume.now bytes.old) }
 {
-    number_by(npy::write([d0, d1, d2], volume, bytes))
+    number_in(npy::write([d0, d1, d2], volume, bytes))
 }
 
 // Zoom's output length; 0 where refusal 3, 4, 12 or 5 would answer.

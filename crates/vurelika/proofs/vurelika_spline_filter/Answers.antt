@@ -1,15 +1,14 @@
 -- `vurelika::vurelika_spline_filter` meets its contract.
-use mathlib.Core.Path.{sym, ◌∙◌}
 use Rattle.request.specs.declared.Request.{Request}
 use Rattle.resample.specs.Call.{spline_filter_call}
 use Rattle.numbers.specs.Numbers.{plain_request_of}
-use Rattle.vurelika.proofs.Doors.{filter_answers, filter_unknown}
+use Rattle.vurelika.proofs.Doors.{asked_for, unnumbered, filter_answers, filter_unknown}
 use Rattle.vurelika.proofs.vurelika_spline_filter.Goals as goal
 
-pub returns-then-is_mode : goal.returns-then-is_mode
-returns-then-is_mode c =
+pub returns-in-Some : goal.returns-in-Some
+returns-in-Some c =
     let a = c.args in
-    filter_answers (λ (r : Request). spline_filter_call r a.input.now a.output.now) a.mode (plain_request_of a.d0 a.d1 a.d2 a.order 0 a.mode a.fill) a.output.now (sym c.is_mode.ensures ∙ c.if-is_mode.true) c.plain_request_of-r.ensures c.spline_filter.ensures c.number_by.ensures
+    filter_answers (λ (r : Request). spline_filter_call r a.input.now a.output.now) a.mode (plain_request_of a.d0 a.d1 a.d2 a.order 0 a.mode a.fill) a.output.now (asked_for _ c.in-Some.ensures).0 (asked_for _ c.in-Some.ensures).1 c.spline_filter.ensures c.number_in.ensures
 
-pub returns-else-is_mode : goal.returns-else-is_mode
-returns-else-is_mode c = filter_unknown _ _ _ (sym c.is_mode.ensures ∙ c.if-is_mode.false)
+pub returns-in-None : goal.returns-in-None
+returns-in-None c = filter_unknown _ _ _ (unnumbered _ _ c.in-None.ensures)

@@ -1,27 +1,21 @@
 -- `vurelika::vurelika_zoom` meets its contract.
-use mathlib.Core.Path.{sym, ◌∙◌}
-use Rattle.request.specs.declared.Request.{Request}
 use Rattle.resample.specs.Call.{zoom_call}
 use Rattle.numbers.specs.Numbers.{request_of}
 use Rattle.vurelika.proofs.Empty.{empty_refused_zoom}
-use Rattle.vurelika.proofs.Doors.{answers, refuses, unknown}
-use Rattle.vurelika.proofs.vurelika_zoom.Goals.{After-is_mode}
+use Rattle.vurelika.proofs.Doors.{asked_for, unnumbered, answers, refuses, unknown}
 use Rattle.vurelika.proofs.vurelika_zoom.Goals as goal
-
-abbrev asked : After-is_mode → Request
-asked c = let a = c.args in request_of a.d0 a.d1 a.d2 a.f0 a.f1 a.f2 a.order a.prefilter a.mode a.fill
 
 pub returns-then-counts-eq-PLACES : goal.returns-then-counts-eq-PLACES
 returns-then-counts-eq-PLACES c =
     let a = c.args in
-    answers zoom_call a.mode (asked (goal.at.returns-then-counts-eq-PLACES c).After-is_mode) a.input.now a.output.now a.coverage.now a.work.now a.counts.now (sym c.is_mode.ensures ∙ c.if-is_mode.true) c.if-counts-eq-PLACES.true c.request_of-r.ensures c.zoom.ensures c.report.ensures.0 c.report.ensures.1
+    answers zoom_call a.mode (request_of a.d0 a.d1 a.d2 a.f0 a.f1 a.f2 a.order a.prefilter a.mode a.fill) a.input.now a.output.now a.coverage.now a.work.now a.counts.now (asked_for _ c.in-Some.ensures).0 c.if-counts-eq-PLACES.true (asked_for _ c.in-Some.ensures).1 c.zoom.ensures c.report.ensures.0 c.report.ensures.1
 
 pub returns-else-counts-eq-PLACES : goal.returns-else-counts-eq-PLACES
 returns-else-counts-eq-PLACES c =
     let a = c.args in
-    refuses zoom_call a.mode (asked (goal.at.returns-else-counts-eq-PLACES c).After-is_mode) a.input.now a.output.now a.coverage.now a.work.now a.counts.now empty_refused_zoom (sym c.is_mode.ensures ∙ c.if-is_mode.true) c.if-counts-eq-PLACES.false c.request_of-r.ensures c.zoom-else-counts-eq-PLACES.ensures c.number_in.ensures
+    refuses zoom_call a.mode (request_of a.d0 a.d1 a.d2 a.f0 a.f1 a.f2 a.order a.prefilter a.mode a.fill) a.input.now a.output.now a.coverage.now a.work.now a.counts.now empty_refused_zoom (asked_for _ c.in-Some.ensures).0 c.if-counts-eq-PLACES.false (asked_for _ c.in-Some.ensures).1 c.zoom-else-counts-eq-PLACES.ensures c.number_in.ensures
 
-pub returns-else-is_mode : goal.returns-else-is_mode
-returns-else-is_mode c =
+pub returns-in-None : goal.returns-in-None
+returns-in-None c =
     let a = c.args in
-    unknown zoom_call a.mode (asked (goal.at.returns-else-is_mode c).After-is_mode) a.input.now a.output.now a.coverage.now a.work.now a.counts.now (sym c.is_mode.ensures ∙ c.if-is_mode.false) c.clear.ensures
+    unknown zoom_call a.mode (request_of a.d0 a.d1 a.d2 a.f0 a.f1 a.f2 a.order a.prefilter a.mode a.fill) a.input.now a.output.now a.coverage.now a.work.now a.counts.now (unnumbered _ _ c.in-None.ensures) c.clear.ensures

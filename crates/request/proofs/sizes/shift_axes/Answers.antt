@@ -11,6 +11,3 @@ shift_axis-requires-2 c = ((c.requires 1 (lit≤ tt)).1, padding_most c.args.r 1
 
 pub shift_axis-requires-3 : goal.shift_axis-requires-3
 shift_axis-requires-3 c = ((c.requires 2 (lit≤ tt)).1, padding_most c.args.r 2 c.padding-3.ensures)
-
-pub returns : goal.returns
-returns c = simp (c.shift_axis-3.ensures, c.padding-3.ensures, c.shift_axis-2.ensures, c.padding-2.ensures, c.shift_axis.ensures, c.padding.ensures)

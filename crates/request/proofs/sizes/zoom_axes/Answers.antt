@@ -11,6 +11,3 @@ zoom_axis-requires-2 c = (c.requires.lengths 1 (lit≤ tt), ((c.requires.out_val
 
 pub zoom_axis-requires-3 : goal.zoom_axis-requires-3
 zoom_axis-requires-3 c = (c.requires.lengths 2 (lit≤ tt), ((c.requires.out_value.1 2 (lit≤ tt)).0, padding_most c.args.r 2 c.padding-3.ensures))
-
-pub returns : goal.returns
-returns c = simp (c.zoom_axis-3.ensures, c.padding-3.ensures, c.zoom_axis-2.ensures, c.padding-2.ensures, c.zoom_axis.ensures, c.padding.ensures, c.requires.out_value.0)
