@@ -5,10 +5,11 @@ use Rattle.text.specs.Text.{literal}
 use Rattle.text.proofs.Texts.{literal_on, literal_done}
 use Rattle.text.proofs.literal.Goals as goal
 
-pub loop-i-preserved : goal.loop-i-preserved
-loop-i-preserved c =
+pub loop-sign-preserved : goal.loop-sign-preserved
+loop-sign-preserved c =
     let a = c.args in
-    c.loop-i.invariant ∙ literal_on a.text.now c.loop-i.to a.word.now c.loop-i.i (omega arith) ∙ ap (literal _) (sym c.expect-to.ensures)
+    let i = c.loop-sign.sign-index in
+    c.loop-sign.invariant ∙ literal_on a.text.now c.loop-sign.to a.word.now i (omega arith) ∙ ap (literal _) (sym c.expect-to.ensures)
 
 pub returns : goal.returns
-returns c = let a = c.args in sym (c.loop-i.invariant ∙ literal_done a.text.now c.loop-i.to a.word.now c.loop-i.i (omega arith))
+returns c = let a = c.args in sym (c.loop-sign.invariant ∙ literal_done a.text.now c.loop-sign.to a.word.now c.loop-sign.sign-index (omega arith))
