@@ -2,7 +2,8 @@
 use Prim.Native.Nat.{ℕ, zero, suc, ◌+◌, ◌-◌, ◌*◌, ◌≤◌, ◌<◌}
 use native.Mathlib.Nat.{zero-add, suc-add}
 use mathlib.Core.Path.{◌≡◌, refl, sym, ap, ◌∙◌}
-use mathlib.Core.Bool.{Bool, true, false, ◌&&◌}
+use mathlib.Core.Bool.{Bool, true, false, ◌&&◌, cond}
+use Rattle.std.specs.Prelude.{Option, Some, None}
 use mathlib.Core.List.{List, [], ◌∷◌}
 use lib.Dec.{eqb, ltb, leb}
 use lib.ListN.{length, take, drop, length-drop}
@@ -27,6 +28,21 @@ and_none false e = refl
 
 and_first : {t : Bool} (u : Bool) → t ≡ false → (t && u) ≡ false
 and_first u e = ap (λ (t : Bool). t && u) e
+
+-- ---- lengths that are given where a test holds
+pub given : (t : Bool) {x y : List ℕ} → cond t (Some x) None ≡ Some y → (t ≡ true) × (x ≡ y)
+given true e = (refl, cc)
+given false e = cc
+
+pub not_given : (t : Bool) (x : List ℕ) → cond t (Some x) None ≡ None → t ≡ false
+not_given true x e = cc
+not_given false x e = refl
+
+pub give : {t : Bool} {x y : List ℕ} → t ≡ true → x ≡ y → Some y ≡ cond t (Some x) None
+give {x = x} e f = ap Some (sym f) ∙ sym (ap (λ (t : Bool). cond t (Some x) None) e)
+
+pub give_none : {t : Bool} (x : List ℕ) → t ≡ false → None ≡ cond t (Some x) None
+give_none x e = sym (ap (λ (t : Bool). cond t (Some x) None) e)
 
 module _ (file : List ℕ) where
   abbrev has_magic : Bool
@@ -72,9 +88,9 @@ module _ (file : List ℕ) where
   unfolding has_data
   large_span e = sym (and_first (eqb (length (data_of file)) (count_of (dims_of file) * 8)) e)
 
-  pub data_there : small_span ≡ true → eqb (length file - (text_start + text_length file)) (count_of (dims_of file) * 8) ≡ has_data file
+  pub data_there : small_span ≡ true → eqb (length (data_of file)) (count_of (dims_of file) * 8) ≡ has_data file
   unfolding has_data
-  data_there e = λ i. sym e i && eqb (sym (length-drop (text_start + text_length file) file) i) (count_of (dims_of file) * 8)
+  data_there e = λ i. sym e i && eqb (length (data_of file)) (count_of (dims_of file) * 8)
 
   -- ---- both
   pub no_header : has_header file ≡ false → false ≡ is_npy file

@@ -6,7 +6,7 @@ ghost use Rattle.std.specs.Prelude.{◌≡◌, [], ◌∷◌, length, get_or};
 ghost use Rattle.refusal.specs.Refusals.{first};
 ghost use Rattle.npy.specs.Call.{npy_call_of, length_checks, read_checks, write_checks, dims_call, read_call, size_call, write_call};
 
-use crate::file::{data_of, dims_of, is_npy};
+use crate::file::{data_of, dims_in_file};
 use crate::writer::{HEADER, put_header};
 use limits::MOST_PLACES;
 use refusal::{Refusal, Verdict};
@@ -35,10 +35,9 @@ fn length_verdict(d: [usize; 3]) -> Verdict
 fn read_verdict(file: &[u8], volume: usize) -> Verdict
     ensures { result ≡ first (read_checks file.now volume) }
 {
-    if !is_npy(file) {
+    let Some(d) = dims_in_file(file) else {
         return Verdict::Refused(Refusal::NotNpy);
-    }
-    let d = dims_of(file);
+    };
     match length_verdict(d) {
         Verdict::Passed => {
             if volume != count_of(d) {
@@ -81,13 +80,13 @@ fn put_dims(dims: &mut [usize], d: [usize; 3])
 pub fn dims(file: &[u8], dims: &mut [usize]) -> Verdict
     ensures { npy_call_of result dims.new ≡ dims_call file.now dims.old }
 {
-    if !is_npy(file) {
+    let Some(d) = dims_in_file(file) else {
         return Verdict::Refused(Refusal::NotNpy);
-    }
+    };
     if dims.len() != 3 {
         return Verdict::Refused(Refusal::Buffer);
     }
-    put_dims(dims, dims_of(file));
+    put_dims(dims, d);
     Verdict::Passed
 }
 

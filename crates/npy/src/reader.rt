@@ -2,7 +2,7 @@
 ghost use Rattle.std.specs.Prelude.{◌≡◌, drop};
 ghost use Rattle.npy.specs.Bookkeeping.{header_in};
 
-use crate::header::{Header, header_at};
+use crate::header::header_at;
 
 #[derive(Clone, Copy)]
 pub struct Reader<'a> {
@@ -16,15 +16,15 @@ pub fn new<'a>(bytes: &'a [u8], at: usize) -> Reader<'a>
     Reader { bytes, at }
 }
 
-// What the text says from the place reached on.
-pub fn header<'a>(r: Reader<'a>) -> Header
+// The lengths of the header that stands from the place reached on, if one does.
+pub fn header<'a>(r: Reader<'a>) -> Option<[usize; 3]>
     ensures { result ≡ header_in (drop r.entry.at r.entry.bytes.now) }
 {
     header_at(r.bytes, r.at)
 }
 
 // The same for whoever has a slice and a place.
-pub fn header_of(bytes: &[u8], at: usize) -> Header
+pub fn header_of(bytes: &[u8], at: usize) -> Option<[usize; 3]>
     ensures { result ≡ header_in (drop at bytes.now) }
 {
     header(new(bytes, at))

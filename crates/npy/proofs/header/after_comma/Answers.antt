@@ -7,6 +7,6 @@ pub returns-then-is_at : goal.returns-then-is_at
 unfolding after_comma
 returns-then-is_at c = simp (sym c.is_at.ensures ∙ c.if-is_at.true) (cc)
 
-pub returns : goal.returns
+pub returns-else-is_at : goal.returns-else-is_at
 unfolding after_comma
-returns c = simp (sym c.is_at.ensures ∙ c.if-is_at.false)
+returns-else-is_at c = simp (sym c.is_at.ensures ∙ c.if-is_at.false)

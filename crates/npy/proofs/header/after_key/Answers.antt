@@ -1,16 +1,20 @@
 -- `npy::header::after_key` meets its contract.
-use borrow.Author.Tests.{eq-eqb, ne_eqb}
+use lib.Seq.{drop-length}
 use Rattle.npy.specs.Header.{after_key}
 use Rattle.npy.proofs.header.after_key.Goals as goal
 
-pub returns-then-key-eq0 : goal.returns-then-key-eq0
+pub returns-in-Descr : goal.returns-in-Descr
 unfolding after_key
-returns-then-key-eq0 c = simp (eq-eqb _ _ c.if-key-eq0.true) c.quoted.ensures
+returns-in-Descr c = rw c.in-Descr.is c.quoted.ensures
 
-pub returns-then-key-eq1 : goal.returns-then-key-eq1
+pub returns-in-FortranOrder : goal.returns-in-FortranOrder
 unfolding after_key
-returns-then-key-eq1 c = simp (ne_eqb _ _ c.if-key-eq0.false, eq-eqb _ _ c.if-key-eq1.true) c.quoted-then-key-eq1.ensures
+returns-in-FortranOrder c = rw c.in-FortranOrder.is c.quoted-in-FortranOrder.ensures
 
-pub returns : goal.returns
+pub returns-in-Shape : goal.returns-in-Shape
 unfolding after_key
-returns c = simp (ne_eqb _ _ c.if-key-eq0.false, ne_eqb _ _ c.if-key-eq1.false) c.quoted-2.ensures
+returns-in-Shape c = rw c.in-Shape.is c.quoted-in-Shape.ensures
+
+pub returns-in-Other : goal.returns-in-Other
+unfolding after_key
+returns-in-Other c = rw c.in-Other.is (drop-length c.args.text.now)

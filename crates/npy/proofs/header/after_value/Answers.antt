@@ -1,21 +1,20 @@
 -- `npy::header::after_value` meets its contract.
-use borrow.Author.Tests.{eq-eqb, ne_eqb}
 use lib.Seq.{drop-length}
 use Rattle.npy.specs.Header.{after_value}
 use Rattle.npy.proofs.header.after_value.Goals as goal
 
-pub returns-then-key-eq0 : goal.returns-then-key-eq0
+pub returns-in-Descr : goal.returns-in-Descr
 unfolding after_value
-returns-then-key-eq0 c = simp (eq-eqb _ _ c.if-key-eq0.true) c.quoted.ensures
+returns-in-Descr c = rw c.in-Descr.is c.quoted.ensures
 
-pub returns-then-key-eq1 : goal.returns-then-key-eq1
+pub returns-in-FortranOrder : goal.returns-in-FortranOrder
 unfolding after_value
-returns-then-key-eq1 c = simp (ne_eqb _ _ c.if-key-eq0.false, eq-eqb _ _ c.if-key-eq1.true) c.literal.ensures
+returns-in-FortranOrder c = rw c.in-FortranOrder.is c.literal.ensures
 
-pub returns-then-key-eq2 : goal.returns-then-key-eq2
+pub returns-in-Shape : goal.returns-in-Shape
 unfolding after_value
-returns-then-key-eq2 c = simp (ne_eqb _ _ c.if-key-eq0.false, ne_eqb _ _ c.if-key-eq1.false, eq-eqb _ _ c.if-key-eq2.true) c.after_shape.ensures
+returns-in-Shape c = rw c.in-Shape.is c.after_shape.ensures
 
-pub returns : goal.returns
+pub returns-in-Other : goal.returns-in-Other
 unfolding after_value
-returns c = simp (ne_eqb _ _ c.if-key-eq0.false, ne_eqb _ _ c.if-key-eq1.false, ne_eqb _ _ c.if-key-eq2.false) (drop-length c.args.text.now)
+returns-in-Other c = rw c.in-Other.is (drop-length c.args.text.now)

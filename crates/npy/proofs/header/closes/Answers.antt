@@ -31,6 +31,6 @@ returns-then-is_at c =
     let rest : drop c.past.result a.text.now ≡ past Spacing (expect (code "}") (drop a.at a.text.now)) = cc in
     simp (sym c.is_at.ensures ∙ c.if-is_at.true) (at_end a.text.now c.past.result ∙ ap (λ (left : List ℕ). not (found left)) rest)
 
-pub returns : goal.returns
+pub returns-else-is_at : goal.returns-else-is_at
 unfolding closes
-returns c = simp (sym c.is_at.ensures ∙ c.if-is_at.false)
+returns-else-is_at c = simp (sym c.is_at.ensures ∙ c.if-is_at.false) c.if-is_at.false

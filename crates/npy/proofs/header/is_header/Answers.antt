@@ -27,6 +27,6 @@ returns-then-each_once c =
     let behind = c.past-behind.ensures ∙ ap (past Spacing) (c.after_entry.ensures ∙ ap after_entry z) in
     simp (sym (once (goal.at.returns-then-each_once c).After-each_once) ∙ c.if-each_once.true) (c.closes.ensures ∙ ap closes (c.after_comma.ensures ∙ ap after_comma behind))
 
-pub returns : goal.returns
+pub returns-else-each_once : goal.returns-else-each_once
 unfolding is_header
-returns c = simp (sym (once (goal.at.returns c).After-each_once) ∙ c.if-each_once.false)
+returns-else-each_once c = simp (sym (once (goal.at.returns-else-each_once c).After-each_once) ∙ c.if-each_once.false) c.if-each_once.false

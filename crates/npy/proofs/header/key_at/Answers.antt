@@ -11,12 +11,12 @@ returns-then-after_key-text c = simp (sym (ap found c.after_key.ensures) ∙ som
 
 pub returns-then-after_key-text-2 : goal.returns-then-after_key-text-2
 unfolding key_at
-returns-then-after_key-text-2 c = simp (sym (ap found c.after_key.ensures) ∙ none_left _ _ c.if-after_key-text.false, sym (ap found c.after_key-2.ensures) ∙ some_left _ _ c.if-after_key-text-2.true)
+returns-then-after_key-text-2 c = simp (sym (ap found c.after_key.ensures) ∙ none_left _ _ c.if-after_key-text.false, sym (ap found c.after_key-else-after_key-text.ensures) ∙ some_left _ _ c.if-after_key-text-2.true)
 
 pub returns-then-after_key-text-3 : goal.returns-then-after_key-text-3
 unfolding key_at
-returns-then-after_key-text-3 c = simp (sym (ap found c.after_key.ensures) ∙ none_left _ _ c.if-after_key-text.false, sym (ap found c.after_key-2.ensures) ∙ none_left _ _ c.if-after_key-text-2.false, sym (ap found c.after_key-3.ensures) ∙ some_left _ _ c.if-after_key-text-3.true)
+returns-then-after_key-text-3 c = simp (sym (ap found c.after_key.ensures) ∙ none_left _ _ c.if-after_key-text.false, sym (ap found c.after_key-else-after_key-text.ensures) ∙ none_left _ _ c.if-after_key-text-2.false, sym (ap found c.after_key-else-after_key-text-2.ensures) ∙ some_left _ _ c.if-after_key-text-3.true)
 
-pub returns : goal.returns
+pub returns-else-after_key-text-3 : goal.returns-else-after_key-text-3
 unfolding key_at
-returns c = simp (sym (ap found c.after_key.ensures) ∙ none_left _ _ c.if-after_key-text.false, sym (ap found c.after_key-2.ensures) ∙ none_left _ _ c.if-after_key-text-2.false, sym (ap found c.after_key-3.ensures) ∙ none_left _ _ c.if-after_key-text-3.false)
+returns-else-after_key-text-3 c = simp (sym (ap found c.after_key.ensures) ∙ none_left _ _ c.if-after_key-text.false, sym (ap found c.after_key-else-after_key-text.ensures) ∙ none_left _ _ c.if-after_key-text-2.false, sym (ap found c.after_key-else-after_key-text-2.ensures) ∙ none_left _ _ c.if-after_key-text-3.false)
