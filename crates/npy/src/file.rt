@@ -40,7 +40,9 @@ fn dims_in_header(file: &[u8]) -> Option<[usize; 3]>
 fn small_span(d: [usize; 3]) -> bool
     ensures { result ≡ ltb (span_of d) largest_span }
 {
-    d[0].max(1).saturating_mul(d[1].max(1).saturating_mul(d[2].max(1))) < LARGEST_SPAN
+    d[0].max(1)
+        .saturating_mul(d[1].max(1).saturating_mul(d[2].max(1)))
+        < LARGEST_SPAN
 }
 
 // The lengths of a file of the kind.

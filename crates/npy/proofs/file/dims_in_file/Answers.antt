@@ -3,11 +3,11 @@ use Prim.Native.Nat.{◌*◌}
 use mathlib.Core.Path.{◌≡◌, sym, ap, ◌∙◌}
 use mathlib.Core.Bool.{true, false}
 use mathlib.Core.List.{List}
-use lib.Dec.{eqb, ltb}
+use lib.Dec.{ltb}
 use lib.ListN.{length}
 use borrow.Author.Tests.{eq-eqb, ne_eqb}
 use Rattle.prefilter.specs.Volume.{count_of}
-use Rattle.npy.specs.File.{data_of, dims_of, has_header, is_npy, span_of, largest_span}
+use Rattle.npy.specs.File.{data_of, dims_of, has_header, span_of, largest_span}
 use Rattle.npy.proofs.Deciding.{given, not_given, give, give_none, headed, large_span, data_there, no_header, by_data}
 use Rattle.npy.proofs.file.dims_in_file.Goals.{After-small_span, else-small_span-via-then-small_span+else-data_of-d, else-small_span-via-else-small_span}
 use Rattle.npy.proofs.file.dims_in_file.Goals as goal
@@ -44,8 +44,8 @@ returns-else-small_span c =
     give_none
     (dims_of file)
     (sym (by_data file h.0)
-    ∙ elim c.else-small_span.branch
-    [ else-small_span-via-then-small_span+else-data_of-d w ↦
-    sym (data_there file (sym (span at) ∙ w.if-small_span.true)) ∙ ne_eqb (length (data_of file)) (count_of (dims_of file) * 8) (λ e. w.if-data_of-d.false (ap length w.data_of.ensures ∙ e ∙ ap (λ (d : List _). count_of d * 8) h.1))
-    | else-small_span-via-else-small_span w ↦ sym (large_span file (sym (span at) ∙ w.if-small_span.false))
+    ∙ elim c.else-small_span.branch [
+      | else-small_span-via-then-small_span+else-data_of-d w ↦
+          sym (data_there file (sym (span at) ∙ w.if-small_span.true)) ∙ ne_eqb (length (data_of file)) (count_of (dims_of file) * 8) (λ e. w.if-data_of-d.false (ap length w.data_of.ensures ∙ e ∙ ap (λ (d : List _). count_of d * 8) h.1))
+      | else-small_span-via-else-small_span w ↦ sym (large_span file (sym (span at) ∙ w.if-small_span.false))
     ])

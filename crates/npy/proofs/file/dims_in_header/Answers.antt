@@ -20,9 +20,9 @@ returns-then-literal-file c =
     let file = c.args.file.now in
     give_none
     (dims_of file)
-    (elim c.then-literal-file.branch
-    [ then-literal-file-via-then-literal-file w ↦ sym (no_magic file (sym (ap found l.ensures) ∙ none_left file l.result w.if-literal-file.true))
-    | then-literal-file-via-else-literal-file+then-file-lt-TEXT_START w ↦ sym (cut_off file (omega (arith, w.if-file-lt-TEXT_START.true)))
+    (elim c.then-literal-file.branch [
+      | then-literal-file-via-then-literal-file w ↦ sym (no_magic file (sym (ap found l.ensures) ∙ none_left file l.result w.if-literal-file.true))
+      | then-literal-file-via-else-literal-file+then-file-lt-TEXT_START w ↦ sym (cut_off file (omega (arith, w.if-file-lt-TEXT_START.true)))
     ])
 
 pub returns-then-n-gt-LONGEST_TEXT : goal.returns-then-n-gt-LONGEST_TEXT
@@ -30,9 +30,9 @@ returns-then-n-gt-LONGEST_TEXT c =
     let file = c.args.file.now in
     give_none
     (dims_of file)
-    (elim c.then-n-gt-LONGEST_TEXT.branch
-    [ then-n-gt-LONGEST_TEXT-via-then-n-gt-LONGEST_TEXT w ↦ sym (long_text file (omega (arith, c.text_length-n.ensures, w.if-n-gt-LONGEST_TEXT.true)))
-    | then-n-gt-LONGEST_TEXT-via-else-n-gt-LONGEST_TEXT+then-n-file w ↦ sym (cut_off file (omega (arith, c.text_length-n.ensures, w.if-n-file.true)))
+    (elim c.then-n-gt-LONGEST_TEXT.branch [
+      | then-n-gt-LONGEST_TEXT-via-then-n-gt-LONGEST_TEXT w ↦ sym (long_text file (omega (arith, c.text_length-n.ensures, w.if-n-gt-LONGEST_TEXT.true)))
+      | then-n-gt-LONGEST_TEXT-via-else-n-gt-LONGEST_TEXT+then-n-file w ↦ sym (cut_off file (omega (arith, c.text_length-n.ensures, w.if-n-file.true)))
     ])
 
 pub returns : goal.returns
