@@ -7,12 +7,14 @@ use text::numeral::{after_numeral, numeral};
 use text::{Kind, expect, is_at, literal, past, quoted};
 
 // ---- shape = "(" s num s "," s num s "," s num s ")"
+#[tactic(auto, unfolding(crate::specs::Header::first_length))]
 fn first_length(text: &[u8], at: usize) -> usize
     ensures { drop result text.now ≡ first_length (drop at text.now) }
 {
     past(text, expect(text, at, b'('), Kind::Spacing)
 }
 
+#[tactic(auto, unfolding(crate::specs::Header::next_length))]
 fn next_length(text: &[u8], at: usize) -> usize
     ensures { drop result text.now ≡ next_length (drop at text.now) }
 {
@@ -20,6 +22,7 @@ fn next_length(text: &[u8], at: usize) -> usize
     past(text, expect(text, behind, b','), Kind::Spacing)
 }
 
+#[tactic(auto, unfolding(crate::specs::Header::after_shape))]
 fn after_shape(text: &[u8], at: usize) -> usize
     ensures { drop result text.now ≡ after_shape (drop at text.now) }
 {
@@ -31,6 +34,7 @@ fn after_shape(text: &[u8], at: usize) -> usize
     )
 }
 
+#[tactic(auto, unfolding(crate::specs::Header::lengths_in))]
 fn lengths_in(text: &[u8], at: usize) -> [usize; 3]
     ensures { result ≡ lengths_in (drop at text.now) }
 {
@@ -49,6 +53,7 @@ pub enum Key {
     Other,
 }
 
+#[tactic(auto, unfolding(crate::specs::Header::after_key))]
 fn after_key(text: &[u8], at: usize, key: Key) -> usize
     ensures { drop result text.now ≡ after_key key (drop at text.now) }
 {
@@ -60,6 +65,7 @@ fn after_key(text: &[u8], at: usize, key: Key) -> usize
     }
 }
 
+#[tactic(auto, using(text::proofs::Texts::some_left, text::proofs::Texts::none_left), unfolding(crate::specs::Header::key_at))]
 fn key_at(text: &[u8], at: usize) -> Key
     ensures { result ≡ key_at (drop at text.now) }
 {
@@ -74,6 +80,7 @@ fn key_at(text: &[u8], at: usize) -> Key
     }
 }
 
+#[tactic(auto, unfolding(crate::specs::Header::value_at))]
 fn value_at(text: &[u8], at: usize) -> usize
     ensures { drop result text.now ≡ value_at (drop at text.now) }
 {
@@ -81,6 +88,7 @@ fn value_at(text: &[u8], at: usize) -> usize
     past(text, expect(text, behind, b':'), Kind::Spacing)
 }
 
+#[tactic(auto, unfolding(crate::specs::Header::after_value))]
 fn after_value(text: &[u8], at: usize, key: Key) -> usize
     ensures { drop result text.now ≡ after_value key (drop at text.now) }
 {
@@ -92,6 +100,7 @@ fn after_value(text: &[u8], at: usize, key: Key) -> usize
     }
 }
 
+#[tactic(auto, unfolding(crate::specs::Header::after_entry))]
 fn after_entry(text: &[u8], at: usize) -> usize
     ensures { drop result text.now ≡ after_entry (drop at text.now) }
 {
@@ -99,6 +108,7 @@ fn after_entry(text: &[u8], at: usize) -> usize
 }
 
 // ---- the whole text
+#[tactic(auto, unfolding(crate::specs::Header::first_entry))]
 fn first_entry(text: &[u8], at: usize) -> usize
     ensures { drop result text.now ≡ first_entry (drop at text.now) }
 {
@@ -109,6 +119,7 @@ fn first_entry(text: &[u8], at: usize) -> usize
     )
 }
 
+#[tactic(auto, unfolding(crate::specs::Header::next_entry))]
 fn next_entry(text: &[u8], at: usize) -> usize
     ensures { drop result text.now ≡ next_entry (drop at text.now) }
 {
@@ -116,6 +127,7 @@ fn next_entry(text: &[u8], at: usize) -> usize
     past(text, expect(text, behind, b','), Kind::Spacing)
 }
 
+#[tactic(auto, unfolding(crate::specs::Header::after_comma))]
 fn after_comma(text: &[u8], at: usize) -> usize
     ensures { drop result text.now ≡ after_comma (drop at text.now) }
 {
@@ -138,6 +150,7 @@ fn each_once(j: Key, k: Key, l: Key) -> bool
     j != k && j != l && k != l
 }
 
+#[tactic(auto, unfolding(crate::specs::Header::is_header))]
 fn is_header(text: &[u8], at: usize) -> bool
     ensures { result ≡ is_header (drop at text.now) }
 {
@@ -165,6 +178,7 @@ fn shape_entry(text: &[u8], at: usize) -> usize
 }
 
 // The lengths of a header, and numbers of a text that is none.
+#[tactic(auto, unfolding(crate::specs::Header::lengths_of))]
 pub fn lengths_of(text: &[u8], at: usize) -> [usize; 3]
     ensures { result ≡ lengths_of (drop at text.now) }
 {

@@ -4,7 +4,7 @@ use mathlib.Core.Path.{◌≡◌, sym, ap, ◌∙◌}
 use Prim.Native.Nat.{ℕ, ◌+◌, ◌*◌}
 use Rattle.refusal.specs.Refusals.{first}
 use Rattle.npy.specs.Call.{length_checks}
-use Rattle.npy.proofs.Verdicts.{passed_small, passed_count, write_volume, write_bytes, write_passed}
+use Rattle.npy.proofs.Verdicts.{passed_small, passed_count}
 use Rattle.npy.proofs.write_verdict.Goals.{In_ok-length_verdict}
 use Rattle.npy.proofs.write_verdict.Goals as goal
 use Rattle.std.specs.Prelude.{Ok}
