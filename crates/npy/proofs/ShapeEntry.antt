@@ -1,7 +1,7 @@
 -- Which entry holds the shape.
 use Prim.Native.Nat.{ℕ}
 use mathlib.Core.Path.{◌≡◌, refl, ap, ◌∙◌}
-use mathlib.Core.Bool.{Bool, true, false, cond}
+use mathlib.Core.Bool.{Bool, false, cond}
 use mathlib.Core.List.{List}
 use denote.Enum.Bare.{sameb}
 use Rattle.npy.specs.contracts.header.Key.{the_type}
@@ -26,16 +26,9 @@ module _ (t : List ℕ) where
   abbrev later : Bool → List ℕ
   later second = cond second b (next_entry b)
 
-  pub shape_first : is_same (key_at a) Shape ≡ true → shape_entry t ≡ a
-  unfolding shape_entry
-  shape_first e = ap (λ (x : Bool). cond x a (later (is_same (key_at b) Shape))) e
-
   not_first : is_same (key_at a) Shape ≡ false → shape_entry t ≡ later (is_same (key_at b) Shape)
   unfolding shape_entry
   not_first e = ap (λ (x : Bool). cond x a (later (is_same (key_at b) Shape))) e
-
-  pub shape_second : is_same (key_at a) Shape ≡ false → is_same (key_at b) Shape ≡ true → shape_entry t ≡ b
-  shape_second n e = not_first n ∙ ap later e
 
   pub shape_third : is_same (key_at a) Shape ≡ false → is_same (key_at b) Shape ≡ false → shape_entry t ≡ next_entry b
   shape_third n m = not_first n ∙ ap later m

@@ -4,7 +4,7 @@ use mathlib.Core.Path.{◌≡◌, sym, ap, ◌∙◌}
 use mathlib.Core.Bool.{Bool, true, false, not, ◌||◌, cond}
 use mathlib.Core.List.{List, [], ◌∷◌, ◌++◌}
 use lib.Dec.{eqb}
-use borrow.Author.Tests.{ltb-false, eqb-true, eq-eqb, ne_eqb, not-false}
+use borrow.Author.Tests.{ltb-false, eqb-true, eq-eqb, not-false}
 use Rattle.limits.specs.Limits.{most_places}
 use Rattle.prefilter.specs.Volume.{count_of}
 use Rattle.request.specs.Conditions.{wrong}
@@ -14,9 +14,9 @@ use Rattle.request.proofs.Requests.{small, good_lengths}
 use Rattle.refusal.specs.declared.Refusal.{Refusal}
 use Rattle.refusal.specs.declared.Refusal.TheVariants.{NotNpy, Buffer}
 use Rattle.refusal.specs.Refusals.{Check, when, first}
-use Rattle.refusal.proofs.Firsts.{all_clear, passed_on, refused_before}
+use Rattle.refusal.proofs.Firsts.{all_clear, passed_on}
 use Rattle.npy.specs.File.{is_npy, dims_of}
-use Rattle.npy.specs.Call.{npy_call_of, npy_call_by, dims_checks, length_checks, read_checks, write_checks, size_of}
+use Rattle.npy.specs.Call.{npy_call_of, npy_call_by, length_checks, read_checks, write_checks, size_of}
 use Rattle.std.specs.Prelude.{Result, Ok, Err, ⊤}
 
 buffer_wrong : {t : Bool} → t ≡ true → first (when Buffer t ∷ []) ≡ Err Buffer

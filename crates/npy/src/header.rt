@@ -138,6 +138,7 @@ fn after_comma(text: &[u8], at: usize) -> usize
     }
 }
 
+#[tactic(auto, using(crate::proofs::Deciding::at_end), unfolding(crate::specs::Header::closes))]
 fn closes(text: &[u8], at: usize) -> bool
     ensures { result ≡ closes (drop at text.now) }
 {
@@ -163,6 +164,7 @@ fn is_header(text: &[u8], at: usize) -> bool
 }
 
 // The entry that has the key "shape".
+#[tactic(auto, using(crate::proofs::ShapeEntry::is_shape), unfolding(crate::specs::Header::shape_entry))]
 fn shape_entry(text: &[u8], at: usize) -> usize
     ensures { drop result text.now ≡ shape_entry (drop at text.now) }
 {

@@ -58,6 +58,7 @@ fn write_verdict(d: [usize; 3], volume: usize, bytes: usize) -> Result<(), Refus
 }
 
 // The lengths of any file of the kind, whether or not it can be read.
+#[tactic(auto, unfolding(crate::specs::Call::dims_call))]
 pub fn dims(file: &[u8], dims: &mut [usize]) -> Result<(), Refusal>
     ensures { npy_call_of result dims.new ≡ dims_call file.now dims.old }
 {

@@ -67,6 +67,7 @@ impl Draft {
         }
     }
 
+    #[tactic(auto, unfolding(crate::specs::File::decimal))]
     fn put_decimal(&mut self, n: usize)
         requires { length self.old + 4 ≤ 128 }
         ensures { self.new ≡ self.old ++ decimal n }

@@ -1,7 +1,6 @@
 -- `npy::write_verdict` meets its contract.
 use native.Mathlib.Omega.{arith}
-use mathlib.Core.Path.{◌≡◌, sym, ap, ◌∙◌}
-use Prim.Native.Nat.{ℕ, ◌+◌, ◌*◌}
+use mathlib.Core.Path.{◌≡◌, sym, ◌∙◌}
 use Rattle.refusal.specs.Refusals.{first}
 use Rattle.npy.specs.Call.{length_checks}
 use Rattle.npy.proofs.Verdicts.{passed_small, passed_count}
