@@ -31,6 +31,10 @@ passed : (says : Refusal) (applies : Bool) (v : Result ⊤ Refusal) → cond app
 passed says false v e = (refl, e)
 passed says true v e = absurd (subst (λ (v : Result ⊤ Refusal). IsRefused v) e tt)
 
+-- a single check that lets pass: b is what is tested
+pub let_pass : {t b : Bool} {r : Result ⊤ Refusal} (why : Refusal) → t ≡ b → r ≡ cond t (Err why) (Ok tt) → r ≡ Ok tt → b ≡ false
+let_pass {b = b} why s e q = (passed why b (Ok tt) (ap (λ (u : Bool). cond u (Err why) (Ok tt)) (sym s) ∙ sym e ∙ q)).0
+
 abbrev pub Clear : List Check → Type 0
 Clear [] = Unit
 Clear (c ∷ cs) = (c.applies ≡ false) × Clear cs

@@ -1,8 +1,8 @@
 // The refusals, their numbers, and which of them a call meets.
 #![tactic(auto)]
 
-ghost use Rattle.std.specs.Prelude.{◌≡◌};
-ghost use Rattle.refusal.specs.Refusals.{number_of, number_in};
+ghost use Rattle.std.specs.Prelude.{◌≡◌, [], ◌∷◌};
+ghost use Rattle.refusal.specs.Refusals.{number_of, number_in, when, first};
 
 pub mod points;
 pub mod verdicts;
@@ -36,6 +36,13 @@ pub fn number_of(why: Refusal) -> u32
     ensures { result ≡ number_of why }
 {
     why as u32
+}
+
+// A single check.
+pub fn refuse_if(applies: bool, why: Refusal) -> Result<(), Refusal>
+    ensures { result ≡ first (when why applies ∷ []) }
+{
+    if applies { Err(why) } else { Ok(()) }
 }
 
 // The number of an answer: 0 where nothing is refused.

@@ -4,7 +4,7 @@ ghost use Rattle.axis.specs.Point.{some_beside};
 ghost use Rattle.request.specs.Conditions.{wrong};
 ghost use Rattle.refusal.specs.Refusals.{first, point_checks, shift_point_checks, zoom_point_checks};
 
-use crate::Refusal;
+use crate::{Refusal, refuse_if};
 use axis::coordinate::{Axis, output_length, pad_of, shift_axis, zoom_axis};
 use axis::point::some_beside;
 use border::BorderMode;
@@ -16,22 +16,13 @@ use request::conditions::{
 fn wrong_places(coordinate: usize, at: usize, weight: usize) -> bool
     ensures { result ≡ (wrong coordinate 1 || wrong at 6 || wrong weight 6) }
 {
-    if coordinate != 1 {
-        return true;
-    }
-    if at != 6 {
-        return true;
-    }
-    weight != 6
+    coordinate != 1 || at != 6 || weight != 6
 }
 
 fn beside(order: usize, mode: BorderMode, a: Axis) -> bool
     ensures { result ≡ (eqb order 0 && some_beside mode a) }
 {
-    if order != 0 {
-        return false;
-    }
-    some_beside(a, mode)
+    order == 0 && some_beside(a, mode)
 }
 
 // Refusals 7, 9 and 11.
@@ -46,16 +37,9 @@ fn point_verdict(
 ) -> Result<(), Refusal>
     ensures { result ≡ first (point_checks order mode a i coordinate at weight) }
 {
-    if wrong_places(coordinate, at, weight) {
-        return Err(Refusal::Buffer);
-    }
-    if beside(order, mode, a) {
-        return Err(Refusal::Beside);
-    }
-    if bad_index(a.out, i) {
-        return Err(Refusal::Index);
-    }
-    Ok(())
+    refuse_if(wrong_places(coordinate, at, weight), Refusal::Buffer)?;
+    refuse_if(beside(order, mode, a), Refusal::Beside)?;
+    refuse_if(bad_index(a.out, i), Refusal::Index)
 }
 
 pub fn shift_point_verdict(
@@ -71,18 +55,10 @@ pub fn shift_point_verdict(
 ) -> Result<(), Refusal>
     ensures { result ≡ first (shift_point_checks length shift order prefilter mode i coordinate at weight) }
 {
-    if order > 5 {
-        return Err(Refusal::Order);
-    }
-    if bad_length(length) {
-        return Err(Refusal::Length);
-    }
-    if bad_shift(shift) {
-        return Err(Refusal::Factor);
-    }
-    if moves_slice(length, shift) {
-        return Err(Refusal::Slice);
-    }
+    refuse_if(order > 5, Refusal::Order)?;
+    refuse_if(bad_length(length), Refusal::Length)?;
+    refuse_if(bad_shift(shift), Refusal::Factor)?;
+    refuse_if(moves_slice(length, shift), Refusal::Slice)?;
     let a = shift_axis(length, shift, pad_of(mode, prefilter, order, length));
     point_verdict(order, mode, a, i, coordinate, at, weight)
 }
@@ -100,22 +76,12 @@ pub fn zoom_point_verdict(
 ) -> Result<(), Refusal>
     ensures { result ≡ first (zoom_point_checks length factor order prefilter mode i coordinate at weight) }
 {
-    if order > 5 {
-        return Err(Refusal::Order);
-    }
-    if bad_length(length) {
-        return Err(Refusal::Length);
-    }
-    if bad_zoom(factor) {
-        return Err(Refusal::Factor);
-    }
+    refuse_if(order > 5, Refusal::Order)?;
+    refuse_if(bad_length(length), Refusal::Length)?;
+    refuse_if(bad_zoom(factor), Refusal::Factor)?;
     let out = output_length(length, factor);
-    if zooms_slice(length, out) {
-        return Err(Refusal::Slice);
-    }
-    if bad_output(length, out) {
-        return Err(Refusal::OutputLength);
-    }
+    refuse_if(zooms_slice(length, out), Refusal::Slice)?;
+    refuse_if(bad_output(length, out), Refusal::OutputLength)?;
     let a = zoom_axis(length, out, pad_of(mode, prefilter, order, length));
     point_verdict(order, mode, a, i, coordinate, at, weight)
 }

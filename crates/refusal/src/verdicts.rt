@@ -4,7 +4,7 @@ ghost use Rattle.request.specs.Bookkeeping.{Lengths};
 ghost use Rattle.request.specs.Conditions.{too_large, wrong, wild_fill, some_wild, beside_any};
 ghost use Rattle.refusal.specs.Refusals.{first, places_of, resample_checks, shift_checks, zoom_checks, index_checks, shift_voxel_checks, zoom_voxel_checks, filter_checks, spline_filter_checks, spline_filter1d_checks};
 
-use crate::{Asked, Refusal};
+use crate::{Asked, Refusal, refuse_if};
 use axis::point::some_beside;
 use border::BorderMode;
 use limits::MOST_PLACES;
@@ -24,13 +24,7 @@ fn too_large(n: usize) -> bool
 fn some_too_large(input: usize, output: usize, work: usize) -> bool
     ensures { result ≡ (too_large input || too_large output || too_large work) }
 {
-    if too_large(input) {
-        return true;
-    }
-    if too_large(output) {
-        return true;
-    }
-    too_large(work)
+    too_large(input) || too_large(output) || too_large(work)
 }
 
 // The lengths of the lent buffers against their counts.
@@ -45,41 +39,21 @@ fn some_wrong(
 ) -> bool
     ensures { result ≡ (wrong input count || wrong output wanted || wrong coverage wanted || ltb work need) }
 {
-    if input != count {
-        return true;
-    }
-    if output != wanted {
-        return true;
-    }
-    if coverage != wanted {
-        return true;
-    }
-    work < need
+    input != count || output != wanted || coverage != wanted || work < need
 }
 
 fn wild_any(mode: BorderMode, input: &[f64]) -> bool
     ensures { result ≡ (wild_fill mode || some_wild input.now) }
 {
-    if wild_fill(mode) {
-        return true;
-    }
-    some_wild(input)
+    wild_fill(mode) || some_wild(input)
 }
 
+#[tactic(auto, unfolding(request::specs::Conditions::beside_any))]
 fn beside_any(r: Request, a: Axes) -> bool
     ensures { result ≡ beside_any r a }
 {
-    if r.order != 0 {
-        return false;
-    }
     let mode = r.mode;
-    if some_beside(a.x, mode) {
-        return true;
-    }
-    if some_beside(a.y, mode) {
-        return true;
-    }
-    some_beside(a.z, mode)
+    r.order == 0 && (some_beside(a.x, mode) || some_beside(a.y, mode) || some_beside(a.z, mode))
 }
 
 // How many places are lent for values, and as many for codes; `count` is the output's.
@@ -112,20 +86,14 @@ fn resample_verdict(
     let count = count_of(dims);
     let wanted = count_of(out);
     let need = needed(r);
-    if some_too_large(count, wanted, need) {
-        return Err(Refusal::Count);
-    }
+    refuse_if(some_too_large(count, wanted, need), Refusal::Count)?;
     let places = places_of(asked, wanted);
-    if some_wrong(input.len(), count, output, coverage, places, work, need) {
-        return Err(Refusal::Buffer);
-    }
-    if wild_any(mode, input) {
-        return Err(Refusal::Value);
-    }
-    if beside_any(r, a) {
-        return Err(Refusal::Beside);
-    }
-    Ok(())
+    refuse_if(
+        some_wrong(input.len(), count, output, coverage, places, work, need),
+        Refusal::Buffer,
+    )?;
+    refuse_if(wild_any(mode, input), Refusal::Value)?;
+    refuse_if(beside_any(r, a), Refusal::Beside)
 }
 
 pub fn shift_verdict(
@@ -140,18 +108,10 @@ pub fn shift_verdict(
 {
     let dims = r.dims;
     let factors = r.factors;
-    if r.order > 5 {
-        return Err(Refusal::Order);
-    }
-    if bad_lengths(dims) {
-        return Err(Refusal::Length);
-    }
-    if bad_shifts(factors) {
-        return Err(Refusal::Factor);
-    }
-    if moves_slices(dims, factors) {
-        return Err(Refusal::Slice);
-    }
+    refuse_if(r.order > 5, Refusal::Order)?;
+    refuse_if(bad_lengths(dims), Refusal::Length)?;
+    refuse_if(bad_shifts(factors), Refusal::Factor)?;
+    refuse_if(moves_slices(dims, factors), Refusal::Slice)?;
     resample_verdict(asked, r, input, output, coverage, work, dims, shift_axes(r))
 }
 
@@ -167,22 +127,12 @@ pub fn zoom_verdict(
 {
     let dims = r.dims;
     let factors = r.factors;
-    if r.order > 5 {
-        return Err(Refusal::Order);
-    }
-    if bad_lengths(dims) {
-        return Err(Refusal::Length);
-    }
-    if bad_zooms(factors) {
-        return Err(Refusal::Factor);
-    }
+    refuse_if(r.order > 5, Refusal::Order)?;
+    refuse_if(bad_lengths(dims), Refusal::Length)?;
+    refuse_if(bad_zooms(factors), Refusal::Factor)?;
     let out = zoom_dims(r);
-    if zooms_slices(dims, out) {
-        return Err(Refusal::Slice);
-    }
-    if bad_outputs(dims, out) {
-        return Err(Refusal::OutputLength);
-    }
+    refuse_if(zooms_slices(dims, out), Refusal::Slice)?;
+    refuse_if(bad_outputs(dims, out), Refusal::OutputLength)?;
     resample_verdict(
         asked,
         r,
@@ -199,10 +149,7 @@ pub fn zoom_verdict(
 fn index_verdict(out: [usize; 3], at: [usize; 3]) -> Result<(), Refusal>
     ensures { result ≡ first (index_checks out at) }
 {
-    if bad_indices(out, at) {
-        return Err(Refusal::Index);
-    }
-    Ok(())
+    refuse_if(bad_indices(out, at), Refusal::Index)
 }
 
 pub fn shift_voxel_verdict(
@@ -240,34 +187,17 @@ fn filter_verdict(r: Request, input: &[f64], output: usize) -> Result<(), Refusa
 {
     let dims = r.dims;
     let mode = r.mode;
-    if bad_lengths(dims) {
-        return Err(Refusal::Length);
-    }
+    refuse_if(bad_lengths(dims), Refusal::Length)?;
     let count = count_of(dims);
-    if too_large(count) {
-        return Err(Refusal::Count);
-    }
-    if input.len() != count {
-        return Err(Refusal::Buffer);
-    }
-    if output != count {
-        return Err(Refusal::Buffer);
-    }
-    if wild_any(mode, input) {
-        return Err(Refusal::Value);
-    }
-    Ok(())
+    refuse_if(too_large(count), Refusal::Count)?;
+    refuse_if(input.len() != count || output != count, Refusal::Buffer)?;
+    refuse_if(wild_any(mode, input), Refusal::Value)
 }
 
 pub fn spline_filter_verdict(r: Request, input: &[f64], output: usize) -> Result<(), Refusal>
     ensures { result ≡ first (spline_filter_checks r input.now output) }
 {
-    if r.order < 2 {
-        return Err(Refusal::Order);
-    }
-    if r.order > 5 {
-        return Err(Refusal::Order);
-    }
+    refuse_if(r.order < 2 || r.order > 5, Refusal::Order)?;
     filter_verdict(r, input, output)
 }
 
@@ -279,11 +209,7 @@ pub fn spline_filter1d_verdict(
 ) -> Result<(), Refusal>
     ensures { result ≡ first (spline_filter1d_checks r axis input.now output) }
 {
-    if r.order > 5 {
-        return Err(Refusal::Order);
-    }
-    if axis > 2 {
-        return Err(Refusal::AxisNumber);
-    }
+    refuse_if(r.order > 5, Refusal::Order)?;
+    refuse_if(axis > 2, Refusal::AxisNumber)?;
     filter_verdict(r, input, output)
 }

@@ -1,29 +1,27 @@
--- The conditions of the refusals, by the steps that the code takes.
-use Prim.Native.Nat.{ℕ}
-use mathlib.Core.Path.{◌≡◌, ◌∙◌}
-use mathlib.Core.Bool.{Bool, true, false, not, ◌&&◌}
+-- Whether some element of a list passes a test: by the element, and by its index.
+use Prim.Native.Nat.{ℕ, zero, suc}
+use mathlib.Core.Path.{◌≡◌, refl, sym, ap, ◌∙◌}
+use mathlib.Core.Bool.{Bool, true, false, ◌||◌}
+use mathlib.Core.List.{List, [], ◌∷◌}
+use lib.ListN.{length, get_or}
+use lib.Ieee.{Float, nan}
+use Rattle.std.specs.List.{list_any}
 use Rattle.lists.specs.Some.{some_below}
 
--- ---- three axes, one after the other
-module _ (bad : ℕ → Bool) where
-  pub at_first : bad 0 ≡ true → true ≡ some_below bad 3
-  unfolding some_below
-  at_first p = simp p
+same_or : (a : Bool) → a ≡ (a || false)
+same_or true = refl
+same_or false = refl
 
-  pub at_second : bad 0 ≡ false → bad 1 ≡ true → true ≡ some_below bad 3
-  unfolding some_below
-  at_second p q = simp (p, q)
+or_assoc : (a b c : Bool) → ((a || b) || c) ≡ (a || (b || c))
+or_assoc true b c = refl
+or_assoc false b c = refl
 
-  pub at-third : bad 0 ≡ false → bad 1 ≡ false → {r : Bool} → r ≡ bad 2 → r ≡ some_below bad 3
-  unfolding some_below
-  at-third p q e = e ∙ simp (p, q)
+first_or_later : (test : ℕ → Bool) (n : ℕ) → some_below test (suc n) ≡ (test 0 || some_below (λ i. test (suc i)) n)
+unfolding some_below
+first_or_later test zero = same_or (test 0)
+first_or_later test (suc n) = ap (λ (b : Bool). b || test (suc n)) (first_or_later test n) ∙ or_assoc (test 0) (some_below (λ i. test (suc i)) n) (test (suc n))
 
--- ---- a number that must lie between two others
-pub between : {a b : Bool} → a ≡ true → b ≡ true → false ≡ not (a && b)
-between p q = simp (p, q)
-
-pub not_above : {a b : Bool} → a ≡ true → b ≡ false → true ≡ not (a && b)
-not_above p q = simp (p, q)
-
-pub not_below : {a : Bool} (b : Bool) → a ≡ false → true ≡ not (a && b)
-not_below b p = simp p
+pub any_below : (test : Float → Bool) (xs : List Float) → list_any test xs ≡ some_below (λ i. test (get_or xs i nan)) (length xs)
+unfolding some_below
+any_below test [] = refl
+any_below test (x ∷ xs) = ap (λ (b : Bool). test x || b) (any_below test xs) ∙ sym (first_or_later (λ i. test (get_or (x ∷ xs) i nan)) (length xs))

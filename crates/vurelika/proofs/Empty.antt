@@ -88,7 +88,7 @@ second_of true b c d e = refl
 second_of false b c d e = simp e
 
 -- whatever 7, 8 and 9 say of the other call
-at_7 : (buffer value beside : Bool) → 7 ≡ in_place (number_in (cond buffer (Err Buffer) (cond value (Err Value) (cond beside (Err Beside) (Ok tt)))))
+at_7 : (buffer value beside : Bool) → 7 ≡ in_place (number_in (cond buffer (Err Buffer) (cond value (Err Value) (cond beside (Err Beside) (Ok (tt {0}))))))
 at_7 true value beside = refl
 at_7 false true beside = refl
 at_7 false false true = refl
