@@ -12,7 +12,7 @@ const TEXT_START: usize = 10;
 const LONGEST_TEXT: usize = 10000;
 
 // Lengths have a smaller product, zeros left out: 2^60, as NumPy's reader asks.
-const LARGEST_SPAN: usize = 1152921504606846976;
+const LARGEST_SPAN: usize = 1 << 60;
 
 // How long the header's text is.
 pub fn text_length(file: &[u8]) -> usize

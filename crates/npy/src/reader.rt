@@ -10,22 +10,24 @@ pub struct Reader<'a> {
     pub at: usize,
 }
 
-pub fn new<'a>(bytes: &'a [u8], at: usize) -> Reader<'a>
-    ensures { (result.bytes ≡ bytes.entry) × (result.at ≡ at) }
-{
-    Reader { bytes, at }
-}
+impl<'a> Reader<'a> {
+    pub fn new(bytes: &'a [u8], at: usize) -> Reader<'a>
+        ensures { (result.bytes ≡ bytes.entry) × (result.at ≡ at) }
+    {
+        Reader { bytes, at }
+    }
 
-// The lengths of the header that stands from the place reached on, if one does.
-pub fn header<'a>(r: Reader<'a>) -> Option<[usize; 3]>
-    ensures { result ≡ header_in (drop r.entry.at r.entry.bytes.now) }
-{
-    header_at(r.bytes, r.at)
+    // The lengths of the header that stands from the place reached on, if one does.
+    pub fn header(self) -> Option<[usize; 3]>
+        ensures { result ≡ header_in (drop self.entry.at self.entry.bytes.now) }
+    {
+        header_at(self.bytes, self.at)
+    }
 }
 
 // The same for whoever has a slice and a place.
 pub fn header_of(bytes: &[u8], at: usize) -> Option<[usize; 3]>
     ensures { result ≡ header_in (drop at bytes.now) }
 {
-    header(new(bytes, at))
+    Reader::new(bytes, at).header()
 }

@@ -5,7 +5,7 @@ ghost use Rattle.text.specs.Numeral.{numeral, after_numeral};
 use crate::{Kind, past};
 
 // Numbers are read below this, 2^60: such a number and a digit more is still a u64.
-const LIMIT: usize = 1152921504606846976;
+const LIMIT: usize = 1 << 60;
 
 // The number that the digits write, or the limit: the number of any text, as its definition has it, and no Option.
 pub fn numeral(text: &[u8], at: usize) -> usize
