@@ -35,6 +35,7 @@ fn is_quote(sign: u8) -> bool
 }
 
 // The place behind all signs of a kind.
+#[tactic(auto, using(crate::proofs::Texts::past_on, crate::proofs::Texts::past_stops, crate::proofs::Texts::past_end))]
 pub fn past(text: &[u8], at: usize, kind: Kind) -> usize
     ensures { drop result text.now ≡ past kind (drop at text.now) }
 {
@@ -47,6 +48,7 @@ pub fn past(text: &[u8], at: usize, kind: Kind) -> usize
 }
 
 // Whether this sign stands at the place.
+#[tactic(auto, using(crate::proofs::Texts::is_there, crate::proofs::Texts::none_there))]
 pub fn is_at(text: &[u8], at: usize, sign: u8) -> bool
     ensures { result ≡ is_at sign (drop at text.now) }
 {
@@ -54,6 +56,7 @@ pub fn is_at(text: &[u8], at: usize, sign: u8) -> bool
 }
 
 // The place behind this sign.
+#[tactic(auto, using(crate::proofs::Texts::is_within, crate::proofs::Texts::expect_there, crate::proofs::Texts::expect_other))]
 pub fn expect(text: &[u8], at: usize, sign: u8) -> usize
     ensures { drop result text.now ≡ expect sign (drop at text.now) }
 {
@@ -65,6 +68,7 @@ pub fn expect(text: &[u8], at: usize, sign: u8) -> usize
 }
 
 // The place behind these signs.
+#[tactic(auto, using(crate::proofs::Texts::literal_on, crate::proofs::Texts::literal_done))]
 pub fn literal(text: &[u8], at: usize, word: &[u8]) -> usize
     ensures { drop result text.now ≡ literal word.now (drop at text.now) }
 {
@@ -76,6 +80,7 @@ pub fn literal(text: &[u8], at: usize, word: &[u8]) -> usize
 }
 
 // The place behind a word in quotes, single or double.
+#[tactic(auto, using(crate::proofs::Texts::quoted_there, crate::proofs::Texts::quoted_other, crate::proofs::Texts::quoted_end))]
 pub fn quoted(text: &[u8], at: usize, word: &[u8]) -> usize
     ensures { drop result text.now ≡ quoted word.now (drop at text.now) }
 {
