@@ -46,7 +46,7 @@ fn lengths_in(text: &[u8], at: usize) -> [usize; 3]
 
 // ---- entries: key s ":" s value
 #[derive(Clone, Copy, PartialEq, Eq)]
-pub enum Key {
+enum Key {
     Descr,
     FortranOrder,
     Shape,

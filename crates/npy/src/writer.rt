@@ -8,7 +8,7 @@ use std::marker::Model;
 // The bytes of a header of ours.
 pub const HEADER: usize = 128;
 
-// A header, as far as it is put.
+// A header, as far as it is put; it stands on the stack, since a library crate here allocates nothing.
 #[derive(Drop)]
 struct Draft {
     bytes: [u8; HEADER],
