@@ -3,7 +3,7 @@ use crate::records::{answer_at, one_if, volume_from};
 use answer_file::replay::{Replay, counted, refused};
 use answer_file::words::{whole_at, word_at};
 use npy::{dims, read, size, write};
-use refusal::{Verdict, number_by};
+use refusal::{Refusal, number_in};
 
 // What the buffers hold before a call: a length, and the bits of a voxel, that no record has.
 const NO_LENGTH: usize = 987654321;
@@ -16,8 +16,8 @@ const NOT_NPY: u64 = 10;
 // The bytes of the largest file written: a header of 128, and 64 voxels.
 const WRITTEN_ROOM: usize = 640;
 
-fn expect_number(r: Replay, answer: Verdict, number: u64) -> Replay {
-    counted(r, number_by(answer) as u64 == number)
+fn expect_number(r: Replay, answer: Result<(), Refusal>, number: u64) -> Replay {
+    counted(r, number_in(answer) as u64 == number)
 }
 
 // The number that `dims` must answer.

@@ -6,8 +6,10 @@ ghost use Rattle.std.specs.Prelude.{◌≤◌};
 
 use answer_file::print::{say, say_whole};
 use border::BorderMode;
+use coverage::counts::Counts;
+use refusal::Refusal;
 use request::Request;
-use resample::{Answer, counts_in, number_in, shift};
+use resample::{counts_in, number_in, shift};
 use std::io;
 use steps::{ALL, NEAR, Steps, VOXELS};
 use volume::{FILL, moved_wrong, phantom, returned_wrong};
@@ -46,7 +48,7 @@ fn ask(steps: Steps, order: usize, prefilter: bool) -> Request {
 }
 
 // 1 if the shift was done, its counts are right and no voxel is wrong; else 0.
-fn exact(answer: Answer, staying: usize, wrong: u64) -> u64
+fn exact(answer: Result<Counts, Refusal>, staying: usize, wrong: u64) -> u64
     requires { staying ≤ 60 }
 {
     let counts = counts_in(answer);

@@ -8,9 +8,9 @@ use crate::entry::Entry;
 use answer_file::words::Words;
 use coverage::counts::Counts;
 use numbers::requests::{is_mode, request_of};
-use refusal::{Refusal, Verdict};
+use refusal::Refusal;
 use request::Request;
-use resample::{Answer, shift, spline_filter, spline_filter1d, zoom};
+use resample::{shift, spline_filter, spline_filter1d, zoom};
 
 // The words of a call.
 pub const CALL: usize = 26;
@@ -42,18 +42,9 @@ pub struct Made {
     pub work: [f64; WORK_ROOM],
 }
 
-fn counts_of(answer: Answer) -> Result<Counts, Refusal> {
-    match answer {
-        Answer::Done(counts) => Ok(counts),
-        Answer::Refused(why) => Err(why),
-    }
-}
-
-fn no_counts(answer: Verdict) -> Result<Counts, Refusal> {
-    match answer {
-        Verdict::Passed => Ok(Counts::none()),
-        Verdict::Refused(why) => Err(why),
-    }
+// What a filter answers: it has no counts.
+fn no_counts(_done: ()) -> Counts {
+    Counts::none()
 }
 
 impl<'a> Call<'a> {
@@ -215,11 +206,11 @@ impl<'a> Call<'a> {
         work: &mut [f64],
     ) -> Result<Counts, Refusal> {
         match self.entry() {
-            Entry::Shift => counts_of(shift(r, input, output, coverage, work)),
-            Entry::Zoom => counts_of(zoom(r, input, output, coverage, work)),
-            Entry::SplineFilter => no_counts(spline_filter(r, input, output)),
+            Entry::Shift => shift(r, input, output, coverage, work),
+            Entry::Zoom => zoom(r, input, output, coverage, work),
+            Entry::SplineFilter => spline_filter(r, input, output).map(no_counts),
             Entry::SplineFilter1d => {
-                no_counts(spline_filter1d(r, self.words.whole(8), input, output))
+                spline_filter1d(r, self.words.whole(8), input, output).map(no_counts)
             }
         }
     }

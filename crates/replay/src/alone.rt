@@ -8,7 +8,7 @@ use one_voxel::{shift_voxel, zoom_voxel};
 use recorded::call::{BLANK, Call, INPUT_ROOM, NO_CODE, OUTPUT_ROOM};
 use recorded::calls::Calls;
 use recorded::entry::Entry;
-use refusal::{Refusal, Verdict, number_by};
+use refusal::{Refusal, number_in};
 use request::Request;
 use std::io;
 
@@ -24,7 +24,7 @@ struct Asked<'a> {
 // The answer for a voxel, and what the places of value and code hold after it.
 #[derive(Clone, Copy)]
 struct Told {
-    answer: Verdict,
+    answer: Result<(), Refusal>,
     value: f64,
     code: u8,
 }
@@ -46,8 +46,8 @@ fn index_of(y: usize, z: usize, k: usize) -> [usize; 3]
     [row / y, row % y, k % z]
 }
 
-fn expect_told(r: &mut Replay, told: Told, answer: Verdict, value: u64, code: u64) {
-    r.count(number_by(told.answer) == number_by(answer));
+fn expect_told(r: &mut Replay, told: Told, answer: Result<(), Refusal>, value: u64, code: u64) {
+    r.count(number_in(told.answer) == number_in(answer));
     r.expect_bits(told.value, value);
     r.count(u64::from(told.code) == code);
 }
@@ -84,7 +84,7 @@ impl<'a> Asked<'a> {
     }
 
     fn is_outside(&self, index: [usize; 3]) -> bool {
-        matches!(self.ask(index).answer, Verdict::Refused(Refusal::Index))
+        matches!(self.ask(index).answer, Err(Refusal::Index))
     }
 
     // The output's length on an axis: the first index that lies outside.
@@ -97,7 +97,7 @@ impl<'a> Asked<'a> {
     // The first index outside is refused, and nothing is written.
     fn expect_outside(&self, r: &mut Replay, axis: usize, length: usize) {
         let told = self.ask(along(axis, length));
-        let outside = Verdict::Refused(Refusal::Index);
+        let outside = Err(Refusal::Index);
         expect_told(r, told, outside, BLANK.to_bits(), u64::from(NO_CODE));
     }
 
@@ -119,7 +119,7 @@ impl<'a> Asked<'a> {
         let codes = self.call.code_words();
         for k in 0..self.call.output_length() {
             let told = self.ask(index_of(y, z, k));
-            expect_told(r, told, Verdict::Passed, values.word(k), codes.word(k));
+            expect_told(r, told, Ok(()), values.word(k), codes.word(k));
         }
     }
 

@@ -5,13 +5,14 @@ use answer_file::replay::Replay;
 use answer_file::words::Words;
 use coverage::counts::Counts;
 use recorded::call::{BLANK, Call, Made, NO_CODE};
-use refusal::{Refusal, number_of};
+use refusal::{Refusal, number_in};
+use resample::counts_in;
 
 // The number of the answer, and of a shift or a zoom its counts.
 fn expect_answer(call: Call, r: &mut Replay, answer: Result<Counts, Refusal>) {
-    r.count(u64::from(answer.map_or_else(number_of, |_| 0)) == call.number());
+    r.count(u64::from(number_in(answer)) == call.number());
     if call.entry().samples() {
-        let counts = answer.unwrap_or(Counts::none());
+        let counts = counts_in(answer);
         let recorded = call.counts();
         r.count(counts.computed == recorded.computed);
         r.count(counts.filled == recorded.filled);

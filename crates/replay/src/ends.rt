@@ -1,6 +1,6 @@
 // How many answers have each number.
 use coverage::counts::Counts;
-use refusal::{Refusal, number_of};
+use refusal::{Refusal, number_in};
 use std::fmt;
 
 // Those of 0 to 9, and behind them those of 12.
@@ -8,10 +8,9 @@ use std::fmt;
 pub struct Ends([u64; 11]);
 
 fn place_of(answer: Result<Counts, Refusal>) -> usize {
-    match answer {
-        Ok(_) => 0,
-        Err(Refusal::Slice) => 10,
-        Err(why) => number_of(why) as usize,
+    match number_in(answer) {
+        12 => 10,
+        n => n as usize,
     }
 }
 

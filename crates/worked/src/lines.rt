@@ -4,9 +4,10 @@ ghost use Rattle.std.specs.Prelude.{◌≡◌, ◌<◌, length};
 use crate::print::{bits, say_codes, say_counts, say_numbers};
 use crate::runs::say_lanes;
 use answer_file::print::{say, say_whole};
-use refusal::{Refusal, Verdict, number_of};
+use coverage::counts::Counts;
+use refusal::{Refusal, number_of};
 use request::Request;
-use resample::{Answer, counts_in, shift, spline_filter, spline_filter1d, zoom};
+use resample::{counts_in, shift, spline_filter, spline_filter1d, zoom};
 use std::io;
 
 // What the buffers hold before a call: a number that no answer here has, and no code.
@@ -67,7 +68,7 @@ fn answer_line(
     rt: &impl Print,
     n: u64,
     name: &[u8],
-    answer: Answer,
+    answer: Result<Counts, Refusal>,
     output: &[f64],
     coverage: &[u8],
     work: &[f64],
@@ -78,8 +79,8 @@ fn answer_line(
     say(rt, name)?;
     say(rt, b":")?;
     match answer {
-        Answer::Done(_) => say_lanes(rt, output, coverage, lane)?,
-        Answer::Refused(why) => say_refusal(rt, why, is_untouched(output, coverage, work))?,
+        Ok(_) => say_lanes(rt, output, coverage, lane)?,
+        Err(why) => say_refusal(rt, why, is_untouched(output, coverage, work))?,
     }
     say(rt, b"; counts")?;
     say_counts(rt, counts_in(answer))?;
@@ -107,14 +108,14 @@ fn filter_line(
     rt: &impl Print,
     n: u64,
     name: &[u8],
-    verdict: Verdict,
+    verdict: Result<(), Refusal>,
     output: &[f64],
 ) -> io::Result<u64> {
     say(rt, name)?;
     say(rt, b":")?;
     match verdict {
-        Verdict::Passed => say_numbers(rt, output)?,
-        Verdict::Refused(why) => say_refusal(rt, why, is_blank(output))?,
+        Ok(()) => say_numbers(rt, output)?,
+        Err(why) => say_refusal(rt, why, is_blank(output))?,
     }
     end_line(rt, n)
 }
