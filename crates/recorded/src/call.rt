@@ -1,8 +1,9 @@
 // One call: what it asks for, how long its buffers are and how much of them it writes, and how it is made.
 // A length is cut to what the programs' buffers hold; `is_call` says whether the words are a call as
 // they stand.
-ghost use Rattle.std.specs.Prelude.{◌≤◌};
+ghost use Rattle.std.specs.Prelude.{◌≡◌, ◌≤◌, drop, length, slice_index, nat_eq, IsTrue, if◌then◌else◌};
 ghost use Rattle.recorded.specs.Bookkeeping.{input_room, output_room, work_room};
+ghost use Rattle.recorded.specs.Entries.{entry_of};
 
 use crate::entry::Entry;
 use answer_file::words::Words;
@@ -29,8 +30,8 @@ pub const NO_CODE: u8 = 255;
 
 #[derive(Clone, Copy)]
 pub struct Call<'a> {
-    file: Words<'a>,
-    words: Words<'a>,
+    pub file: Words<'a>,
+    pub words: Words<'a>,
 }
 
 // What a call answered, and what it left in the buffers.
@@ -48,11 +49,9 @@ fn no_counts(_done: ()) -> Counts {
 }
 
 impl<'a> Call<'a> {
-    pub(crate) fn at(file: Words<'a>, words: Words<'a>) -> Call<'a> {
-        Call { file, words }
-    }
-
-    pub fn entry(self) -> Entry {
+    pub fn entry(self) -> Entry
+        ensures { result ≡ entry_of (slice_index self.entry.words.0.now 0) }
+    {
         Entry::from(self.words.word(0))
     }
 
@@ -115,11 +114,15 @@ impl<'a> Call<'a> {
     }
 
     // The number of the answer.
-    pub fn number(self) -> u64 {
+    pub fn number(self) -> u64
+        ensures { result ≡ slice_index self.entry.words.0.now 17 }
+    {
         self.words.word(17)
     }
 
-    pub fn counts(self) -> Counts {
+    pub fn counts(self) -> Counts
+        ensures { let words = self.entry.words.0.now in result ≡ record { computed = slice_index words 18; filled = slice_index words 19; defaulted = slice_index words 20; folded = slice_index words 21 } }
+    {
         let words = self.words;
         Counts {
             computed: words.whole(18),
@@ -131,7 +134,8 @@ impl<'a> Call<'a> {
 
     // How many of the places lent for values or for codes are written: none by a refusal.
     pub fn written(self, lent: usize) -> usize
-        ensures { result ≤ lent }
+        ensures at_most { result ≤ lent }
+        ensures value { result ≡ (if nat_eq (slice_index self.entry.words.0.now 17) 0 then lent else 0) }
     {
         if self.number() == 0 { lent } else { 0 }
     }
@@ -144,23 +148,33 @@ impl<'a> Call<'a> {
     }
 
     // The words of the pool from the place on that word k names.
-    fn pooled(self, k: usize) -> Words<'a> {
+    fn pooled(self, k: usize) -> Words<'a>
+        ensures { result.0.now ≡ drop (slice_index self.entry.words.0.now k) (drop 1 self.entry.file.0.now) }
+    {
         self.file.pool(self.words.whole(k))
     }
 
-    pub fn input_words(self) -> Words<'a> {
+    pub fn input_words(self) -> Words<'a>
+        ensures { result.0.now ≡ drop (slice_index self.entry.words.0.now 12) (drop 1 self.entry.file.0.now) }
+    {
         self.pooled(12)
     }
 
-    pub fn value_words(self) -> Words<'a> {
+    pub fn value_words(self) -> Words<'a>
+        ensures { result.0.now ≡ drop (slice_index self.entry.words.0.now 22) (drop 1 self.entry.file.0.now) }
+    {
         self.pooled(22)
     }
 
-    pub fn code_words(self) -> Words<'a> {
+    pub fn code_words(self) -> Words<'a>
+        ensures { result.0.now ≡ drop (slice_index self.entry.words.0.now 23) (drop 1 self.entry.file.0.now) }
+    {
         self.pooled(23)
     }
 
-    pub fn coefficient_words(self) -> Words<'a> {
+    pub fn coefficient_words(self) -> Words<'a>
+        ensures { result.0.now ≡ drop (slice_index self.entry.words.0.now 24) (drop 1 self.entry.file.0.now) }
+    {
         self.pooled(24)
     }
 
@@ -189,7 +203,9 @@ impl<'a> Call<'a> {
             && self.is_in_pool(24, self.coefficients(self.work_length()))
     }
 
-    pub fn is_call(self) -> bool {
+    pub fn is_call(self) -> bool
+        ensures { IsTrue result → 26 ≤ length self.entry.words.0.now }
+    {
         self.words.has(CALL)
             && self.words.word(0) < 4
             && self.request().is_some()

@@ -46,7 +46,10 @@ impl<'a> Iterator for Calls<'a> {
         if self.left == 0 {
             return None;
         }
-        let call = Call::at(self.file, self.rest);
+        let call = Call {
+            file: self.file,
+            words: self.rest,
+        };
         self.left -= 1;
         self.rest = self.rest.after(CALL);
         Some(call)

@@ -1,4 +1,7 @@
 // The four entries.
+ghost use Rattle.std.specs.Prelude.{◌≡◌};
+ghost use Rattle.recorded.specs.Entries.{entry_of, samples};
+
 use std::fmt;
 
 #[derive(Clone, Copy, PartialEq, Eq)]
@@ -18,13 +21,17 @@ impl Entry {
     ];
 
     // Whether the entry has a use for coverage and work: a filter has none.
-    pub fn samples(self) -> bool {
+    pub fn samples(self) -> bool
+        ensures { result ≡ samples self }
+    {
         matches!(self, Entry::Shift | Entry::Zoom)
     }
 }
 
 // What asks for no entry counts as a call of the last.
 impl From<u64> for Entry {
+    ghost from_gives = { λ word r. r ≡ entry_of word };
+
     fn from(word: u64) -> Entry {
         match word {
             0 => Entry::Shift,
