@@ -23,6 +23,7 @@ fn read_full(file: &mut impl Read, buf: &mut [u8]) -> usize
     ensures { result ≤ length buf.old }
 {
     let mut done = 0;
+    // Each read goes on by what it gave, so no `for` counts this.
     while done < buf.len() {
         let n = file.read(&mut buf[done..]).unwrap_or(0);
         if n == 0 {
