@@ -1,43 +1,21 @@
 // The file, read into words of 8 bytes, the lowest byte first.
-ghost use Rattle.std.specs.Prelude.{◌+◌, ◌≤◌, length};
+ghost use Rattle.std.specs.Prelude.{◌≤◌, length};
 
-use crate::words::wide;
+use crate::words::Words;
 use std::fs;
 use std::io::Read;
 use std::rt::Files;
 
-fn word_of(b: &[u8], i: usize) -> u64
-    requires { i + 8 ≤ length b.now }
-{
-    let low = wide(b[i]) | wide(b[i + 1]) << 8 | wide(b[i + 2]) << 16 | wide(b[i + 3]) << 24;
-    let high = wide(b[i + 4]) | wide(b[i + 5]) << 8 | wide(b[i + 6]) << 16 | wide(b[i + 7]) << 24;
-    low | high << 32
-}
-
-// Stores a word where there is room, and answers the next place.
-fn put_word(words: &mut [u64], at: usize, word: u64) -> usize
-    requires { at ≤ length words.old }
+// Stores as many words as there is room for, and answers how many these are.
+fn put_words(words: &mut [u64], bytes: &[u8]) -> usize
     ensures { result ≤ length words.old }
 {
-    if at < words.len() {
-        words[at] = word;
-        return at + 1;
+    let (chunks, _) = bytes.as_chunks::<8>();
+    let n = chunks.len().min(words.len());
+    for (word, chunk) in words[..n].iter_mut().zip(chunks) {
+        *word = u64::from_le_bytes(*chunk);
     }
-    at
-}
-
-fn put_words(words: &mut [u64], at: usize, bytes: &[u8]) -> usize
-    requires { at ≤ length words.old }
-    ensures { result ≤ length words.old }
-{
-    let n = bytes.len() / 8;
-    let mut to = at;
-    let mut i = 0;
-    while i < n {
-        to = put_word(words, to, word_of(bytes, i * 8));
-        i += 1;
-    }
-    to
+    n
 }
 
 // Reads until the buffer is full, the file ends or a read fails. Answers how many bytes came.
@@ -56,13 +34,12 @@ fn read_full(file: &mut impl Read, buf: &mut [u8]) -> usize
 }
 
 // One read.
-fn load_some(file: &mut impl Read, words: &mut [u64], at: usize) -> usize
-    requires { at ≤ length words.old }
+fn load_some(file: &mut impl Read, words: &mut [u64]) -> usize
     ensures { result ≤ length words.old }
 {
     let mut buf = [0u8; 4096];
     let n = read_full(file, &mut buf);
-    put_words(words, at, &buf[..n])
+    put_words(words, &buf[..n])
 }
 
 // As many reads as can fill the words; those past the end of the file read nothing. Answers how
@@ -70,25 +47,24 @@ fn load_some(file: &mut impl Read, words: &mut [u64], at: usize) -> usize
 fn load_from(file: &mut impl Read, words: &mut [u64]) -> usize
     ensures { result ≤ length words.old }
 {
-    let reads = words.len() / 512;
     let mut at = 0;
-    let mut i = 0;
-    while i < reads {
-        at = load_some(file, words, at);
-        i += 1;
+    for _ in 0..words.len() / 512 {
+        at += load_some(file, &mut words[at..]);
     }
     at
 }
 
-// The file `answers`. One that cannot be opened has no words, and standard error says why.
-pub fn load(rt: &(impl Files + Eprint), words: &mut [u64]) -> usize
-    ensures { result ≤ length words.new }
-{
+// The file `answers`, in the places of `words`. One that cannot be opened has no words, and standard
+// error says why.
+pub fn load<'a>(rt: &(impl Files + Eprint), words: &'a mut [u64]) -> Words<'a> {
     match fs::open(rt, "answers") {
-        Ok(mut file) => load_from(&mut file, words),
+        Ok(mut file) => {
+            let n = load_from(&mut file, words);
+            Words(&words[..n])
+        }
         Err(why) => {
             let _ = eprintln!(rt; "answers: {why}");
-            0
+            Words(&[])
         }
     }
 }

@@ -1,62 +1,68 @@
-// A replay: where it stands in the words, how many numbers it has compared, and how many differ.
-use crate::words::{after, word_at};
+// A replay: the words that are still to come, how many numbers it has compared, and how many differ.
+use crate::words::Words;
 
-#[derive(Clone, Copy)]
-pub struct Replay {
-    pub at: usize,
+#[derive(Drop)]
+pub struct Replay<'a> {
+    pub rest: Words<'a>,
     pub compared: u64,
     pub differ: u64,
 }
 
 // Whether x has these bits. A NaN has none that count.
 pub fn has_bits(x: f64, bits: u64) -> bool {
-    if x == x {
-        return f64::to_bits(x) == bits;
+    !x.is_nan() && x.to_bits() == bits
+}
+
+impl<'a> Replay<'a> {
+    pub fn new(words: Words<'a>) -> Replay<'a> {
+        Replay {
+            rest: words,
+            compared: 0,
+            differ: 0,
+        }
     }
-    false
-}
 
-// The counts stay far below 2^64.
-pub fn counted(r: Replay, same: bool) -> Replay {
-    let compared = std::num::wrapping_add_u64(r.compared, 1);
-    let mut differ = r.differ;
-    if !same {
-        differ = std::num::wrapping_add_u64(differ, 1);
+    // The counts stay far below 2^64.
+    pub fn count(&mut self, same: bool) {
+        self.compared = self.compared.wrapping_add(1);
+        self.differ = self.differ.wrapping_add(u64::from(!same));
     }
-    Replay {
-        at: r.at,
-        compared,
-        differ,
+
+    // A case that is not one of its kind counts as a difference.
+    pub fn refuse(&mut self) {
+        self.count(false);
     }
-}
 
-// A case that is not one of its kind counts as a difference.
-pub fn refused(r: Replay) -> Replay {
-    counted(r, false)
-}
-
-pub fn moved_to(r: Replay, at: usize) -> Replay {
-    Replay {
-        at,
-        compared: r.compared,
-        differ: r.differ,
+    pub fn skip(&mut self, k: usize) {
+        self.rest = self.rest.after(k);
     }
-}
 
-pub fn skip(words: &[u64], r: Replay, k: usize) -> Replay {
-    let at = r.at;
-    moved_to(r, after(words, at, k))
-}
+    pub fn expect_bits(&mut self, x: f64, bits: u64) {
+        self.count(has_bits(x, bits));
+    }
 
-// Compares x with the next word.
-pub fn expect_float(words: &[u64], r: Replay, x: f64) -> Replay {
-    let at = r.at;
-    let same = has_bits(x, word_at(words, at, 0));
-    skip(words, counted(r, same), 1)
-}
+    // Compares x with the next word.
+    pub fn expect_float(&mut self, x: f64) {
+        self.expect_bits(x, self.rest.word(0));
+        self.skip(1);
+    }
 
-pub fn expect_whole(words: &[u64], r: Replay, n: u64) -> Replay {
-    let at = r.at;
-    let same = word_at(words, at, 0) == n;
-    skip(words, counted(r, same), 1)
+    pub fn expect_whole(&mut self, n: u64) {
+        self.count(self.rest.word(0) == n);
+        self.skip(1);
+    }
+
+    // Compares each number with the next word.
+    pub fn expect_floats(&mut self, values: &[f64]) {
+        for x in values {
+            self.expect_float(*x);
+        }
+    }
+
+    // Compares each number with the same bits.
+    pub fn expect_run(&mut self, values: &[f64], bits: u64) {
+        for x in values {
+            self.expect_bits(*x, bits);
+        }
+    }
 }

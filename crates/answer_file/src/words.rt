@@ -1,45 +1,47 @@
-// The file as words: a whole number, or the bits of a float. Past the end there are zeros.
-ghost use Rattle.std.specs.Prelude.{◌≤◌, length};
+// The file as words: a whole number, or the bits of a float.
 
-pub fn wide(x: u8) -> u64 {
-    x as u64
-}
+// The words from some place of the file on. Past the end there are zeros.
+#[derive(Clone, Copy)]
+pub struct Words<'a>(pub &'a [u64]);
 
-pub fn word_at(words: &[u64], from: usize, k: usize) -> u64 {
-    if from < words.len() {
-        if k < words.len() - from {
-            return words[from + k];
+impl<'a> Words<'a> {
+    pub fn word(self, k: usize) -> u64 {
+        self.0.get(k).copied().unwrap_or(0)
+    }
+
+    pub fn whole(self, k: usize) -> usize {
+        self.word(k) as usize
+    }
+
+    // A word that is a NaN's stands for 0.0.
+    pub fn float(self, k: usize) -> f64 {
+        let x = std::num::f64_from_bits_with_nan(self.word(k));
+        if x.is_nan() { 0.0 } else { x }
+    }
+
+    pub fn len(self) -> usize {
+        self.0.len()
+    }
+
+    // Whether there are n words.
+    pub fn has(self, n: usize) -> bool {
+        n <= self.0.len()
+    }
+
+    // The words from the place k words on.
+    pub fn after(self, k: usize) -> Words<'a> {
+        Words(self.0.get(k..).unwrap_or(&[]))
+    }
+
+    // Of a whole file, the words from the pool's word `start` on: the pool begins behind the first word.
+    pub fn pool(self, start: usize) -> Words<'a> {
+        self.after(1).after(start)
+    }
+
+    // The first numbers, as many as there are places for.
+    pub fn put_floats(self, places: &mut [f64]) {
+        for (k, x) in places.iter_mut().enumerate() {
+            *x = self.float(k);
         }
     }
-    0
-}
-
-pub fn whole_at(words: &[u64], from: usize, k: usize) -> usize {
-    word_at(words, from, k) as usize
-}
-
-// No word is a NaN's.
-pub fn float_at(words: &[u64], from: usize, k: usize) -> f64 {
-    let bits = word_at(words, from, k);
-    if bits % 0x8000_0000_0000_0000 <= 0x7ff0_0000_0000_0000 {
-        return f64::from_bits(bits);
-    }
-    0.0
-}
-
-// The place k words on, at most the end.
-pub fn after(words: &[u64], from: usize, k: usize) -> usize
-    ensures { result ≤ length words.now }
-{
-    if from < words.len() {
-        if k < words.len() - from {
-            return from + k;
-        }
-    }
-    words.len()
-}
-
-// Where the pool's word `start` stands: the pool begins behind the file's first word.
-pub fn in_pool(words: &[u64], start: usize) -> usize {
-    after(words, 1, start)
 }
