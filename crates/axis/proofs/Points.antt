@@ -1,4 +1,4 @@
--- The record of an output index, by the steps that the code takes; and when its mark is 2.
+-- The record of an output index, by the steps that the code takes; and when its mark is Beside.
 use Rattle.std.proofs.Common.{◌≡◌, ℕ, zero, suc, ◌+◌, ◌<◌, ◌≤◌, Bool, true, false, cond, ◌&&◌, T, eqb, leb, List, length, get_or, set, replicate, sym, refl, ap, ◌∙◌, subst, true≢false, suc-le-suc, zero-le, not-suc-le-zero, arith, length-set, get_or-set_other, eq-eqb, ne_eqb}
 use native.Mathlib.Decide.{dec_lt}
 use mathlib.Core.Logic.{dite}
@@ -21,8 +21,9 @@ use Rattle.axis.specs.Coordinate.{settled, kept}
 use Rattle.axis.specs.Weights.{order_on, build_splines}
 use Rattle.axis.specs.Neighbours.{first_neighbour, outside, spline_mode, neighbour, neighbour_index}
 use Rattle.axis.specs.Bookkeeping.{Indexes}
+use Rattle.axis.specs.declared.point.Mark.TheVariants.{Reads, Dropped, Beside}
 use Rattle.axis.specs.declared.point.Point.{Point}
-use Rattle.axis.specs.Point.{is_kept_mark, empty, neighbours, kept_point, point_at, beside_at}
+use Rattle.axis.specs.Point.{is_kept, empty, neighbours, kept_point, point_at, beside_at}
 use Rattle.axis.specs.Bookkeeping.{Reached, Kept}
 use Rattle.axis.proofs.Reaches.{settled_within}
 use Rattle.axis.proofs.Inside.{index_asks}
@@ -91,11 +92,11 @@ kept_two {order} {len} {to} p t o = p.two (some order (ap (λ (b : Bool). eqb or
     some (suc n) e = suc-le-suc zero-le
 
 module _ (order : ℕ) (mode : BorderMode) (len : ℕ) (to : Float) {first : Float} (e : first ≡ first_neighbour order to) where
-  pub kept-outside : order ≡ 0 → outside order len first ≡ true → empty 2 ≡ kept_point order mode len to
+  pub kept-outside : order ≡ 0 → outside order len first ≡ true → empty Beside ≡ kept_point order mode len to
   unfolding kept_point
   kept-outside o t = simp (eq-eqb order 0 o, subst (λ (x : Float). outside order len x ≡ true) e t)
 
-  pub kept_inside : (eqb order 0 && outside order len first) ≡ false → {w : List Float} {n : List ℕ} → w ≡ build_splines order to → n ≡ neighbours mode order len first → record { mark = 0; weight = w; at = n } ≡ kept_point order mode len to
+  pub kept_inside : (eqb order 0 && outside order len first) ≡ false → {w : List Float} {n : List ℕ} → w ≡ build_splines order to → n ≡ neighbours mode order len first → record { mark = Reads; weight = w; at = n } ≡ kept_point order mode len to
   unfolding kept_point
   kept_inside t {w} {n} p q =
       let whole : n ≡ neighbours mode order len (first_neighbour order to) = q ∙ ap (λ (x : Float). neighbours mode order len x) e in
@@ -146,19 +147,19 @@ module _ (order : ℕ) (mode : BorderMode) (a : Axis) (i : ℕ) {to : Float} (e 
   unfolding point_at
   point-kept n t = (λ j. kept_point (n j) mode a.len (e j)) ∙ simp (ap (λ (x : Float). kept x) (sym e) ∙ t)
 
-  pub point_dropped : kept to ≡ false → empty 1 ≡ point_at order mode a i
+  pub point_dropped : kept to ≡ false → empty Dropped ≡ point_at order mode a i
   unfolding point_at
   point_dropped t = simp (ap (λ (x : Float). kept x) (sym e) ∙ t)
 
   -- the mark says whether it is kept
-  pub kept_by_mark : {t : Point} → t ≡ point_at order mode a i → is_kept_mark t.mark ≡ kept (settled mode a i)
+  pub kept_by_mark : {t : Point} → t ≡ point_at order mode a i → is_kept t.mark ≡ kept (settled mode a i)
   unfolding point_at kept_point
-  kept_by_mark {t} e = ap (λ (p : Point). is_kept_mark p.mark) e ∙ go (kept (settled mode a i)) (eqb o 0 && outside o a.len (first_neighbour o (settled mode a i))) _ _
+  kept_by_mark {t} e = ap (λ (p : Point). is_kept p.mark) e ∙ go (kept (settled mode a i)) (eqb o 0 && outside o a.len (first_neighbour o (settled mode a i))) _ _
     where
       o : ℕ
       o = order_on a.len order
 
-      go : (k o : Bool) (w : List Float) (n : List ℕ) → is_kept_mark (cond k (cond o (empty 2) (record { mark = 0; weight = w; at = n })) (empty 1)).mark ≡ k
+      go : (k o : Bool) (w : List Float) (n : List ℕ) → is_kept (cond k (cond o (empty Beside) (record { mark = Reads; weight = w; at = n })) (empty Dropped)).mark ≡ k
       go true true w n = refl
       go true false w n = refl
       go false o w n = refl

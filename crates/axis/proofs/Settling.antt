@@ -23,6 +23,7 @@ use Rattle.axis.specs.declared.coordinate.Axis.{Axis}
 use Rattle.axis.specs.Coordinate.{pads, pad_of, unpadded, unpadded_length, coordinate, settled, kept}
 use Rattle.axis.specs.Weights.{order_on, build_splines}
 use Rattle.axis.specs.Neighbours.{first_neighbour, neighbour, neighbour_index}
+use Rattle.axis.specs.declared.point.Mark.TheVariants.{Dropped}
 use Rattle.axis.specs.Point.{empty, neighbours, kept_point, point_at}
 use Rattle.axis.specs.Folded.{weighs, beyond, weight_at, unfolded_at, folded_at}
 use Rattle.axis.specs.Settled.{Folds, Settles}
@@ -67,7 +68,7 @@ replicate_inside a i p q = by (single a.len) refl
 module _ (order : ℕ) (a : Axis) (i : ℕ) (e : settled Replicate a i ≡ settled Nearest a i) where
   pub nearest_point : point_at order Replicate a i ≡ point_at order Nearest a i
   unfolding point_at kept_point neighbours neighbour_index neighbour
-  nearest_point = ap (λ (to : Float). cond (kept to) (kept_point (order_on a.len order) Nearest a.len to) (empty 1)) e
+  nearest_point = ap (λ (to : Float). cond (kept to) (kept_point (order_on a.len order) Nearest a.len to) (empty Dropped)) e
 
   pub nearest_folded : folded_at order Replicate a i ≡ folded_at order Nearest a i
   unfolding folded_at weight_at unfolded_at

@@ -23,6 +23,7 @@ use Rattle.axis.specs.Coordinate.{shift_axis, zoom_axis, unpadded, coordinate, s
 use Rattle.axis.specs.Length.{output_length}
 use Rattle.axis.specs.Weights.{order_on, base, leading, completed, sum_from, build_splines}
 use Rattle.axis.specs.Neighbours.{first_neighbour, outside, neighbour, neighbour_index}
+use Rattle.axis.specs.declared.point.Mark.TheVariants.{Dropped}
 use Rattle.axis.specs.Point.{empty, neighbours, kept_point, point_at, one_point, beside_at}
 use Rattle.axis.specs.Folded.{weight_at, unfolded_at, weighs, some_folded, folded_at}
 use Rattle.axis.proofs.Coordinates.{single-settled}
@@ -48,7 +49,7 @@ module _ (mode : BorderMode) {a : Axis} {i : ℕ} (l : Lone a i) where
 
   pub lone_point : (order : ℕ) → point_at order mode a i ≡ one_point
   unfolding point_at kept_point neighbours neighbour_index neighbour tabulate build_splines base leading completed sum_from first_neighbour floor_f lt le neg of_int round add sub sum eq to_unsigned
-  lone_point order = λ t. cond (kept (lone_settled t)) (kept_point (order_on (l.one t) order) mode (l.one t) (lone_settled t)) (empty 1)
+  lone_point order = λ t. cond (kept (lone_settled t)) (kept_point (order_on (l.one t) order) mode (l.one t) (lone_settled t)) (empty Dropped)
 
   pub lone_unfolded : (order : ℕ) → folded_at order mode a i ≡ false
   unfolding folded_at some_below weight_at unfolded_at build_splines base leading completed sum_from first_neighbour floor_f lt le neg of_int round add sub sum eq

@@ -2,26 +2,36 @@
 ghost use Rattle.std.specs.Prelude.{◌≡◌, ℕ, ◌<◌, ◌≤◌};
 ghost use Rattle.axis.specs.Neighbours.{first_neighbour, outside, spline_mode, neighbour, neighbour_index};
 ghost use Rattle.axis.specs.Bookkeeping.{Indexes};
-ghost use Rattle.axis.specs.Point.{is_kept_mark, point_at, kept_point, neighbours, beside_at, some_beside};
+ghost use Rattle.axis.specs.Point.{is_kept, point_at, kept_point, neighbours, beside_at, some_beside};
 ghost use Rattle.axis.specs.Bookkeeping.{Reached, Kept};
 
 use crate::coordinate::{Axis, float_of, settled_at};
 use crate::splines::{base_of, build_splines, order_on};
 use border::{BorderMode, map_coordinates};
 
-// Mark 0: kept, with weights and neighbours. 1: dropped. 2: kept at order 0, but outside.
+// What a record does: it reads its neighbours, its index is dropped, or kept at order 0 but outside.
+#[derive(Clone, Copy)]
+pub enum Mark {
+    Reads,
+    Dropped,
+    Beside,
+}
+
+// Weights and neighbours are all 0 where it reads none.
 #[derive(Clone, Copy)]
 pub struct Point {
-    pub mark: u8,
+    pub mark: Mark,
     pub weight: [f64; 6],
     pub at: [usize; 6],
 }
 
-// Whether a record with this mark is one of a kept index.
-pub fn is_kept_mark(mark: u8) -> bool
-    ensures { result ≡ is_kept_mark mark }
-{
-    mark != 1
+impl Mark {
+    // Whether a record with this mark is one of a kept index.
+    pub fn is_kept(self) -> bool
+        ensures { result ≡ is_kept self }
+    {
+        !matches!(self, Mark::Dropped)
+    }
 }
 
 // What an output index of an axis reads.
@@ -34,7 +44,7 @@ pub fn point_at(a: Axis, i: usize, order: usize, mode: BorderMode) -> Point
         return kept_point(to, a.len, order_on(a.len, order), mode);
     }
     Point {
-        mark: 1,
+        mark: Mark::Dropped,
         weight: [0.0; 6],
         at: [0; 6],
     }
@@ -49,7 +59,7 @@ fn kept_point(to: f64, len: usize, order: usize, mode: BorderMode) -> Point
     if order == 0 {
         if out {
             return Point {
-                mark: 2,
+                mark: Mark::Beside,
                 weight: [0.0; 6],
                 at: [0; 6],
             };
@@ -58,7 +68,7 @@ fn kept_point(to: f64, len: usize, order: usize, mode: BorderMode) -> Point
     let weight = build_splines(to, order);
     let at = neighbours_from(first, out, len, order, mode);
     Point {
-        mark: 0,
+        mark: Mark::Reads,
         weight,
         at,
     }

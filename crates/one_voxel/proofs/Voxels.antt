@@ -8,7 +8,7 @@ use lib.Ieee.{Float}
 use Rattle.border.specs.declared.BorderMode.{BorderMode}
 use Rattle.axis.specs.declared.coordinate.Axis.{Axis}
 use Rattle.axis.specs.declared.point.Point.{Point}
-use Rattle.axis.specs.Point.{is_kept_mark, point_at}
+use Rattle.axis.specs.Point.{is_kept, point_at}
 use Rattle.request.specs.declared.Axes.{Axes}
 use Rattle.request.specs.declared.Request.{Request}
 use Rattle.request.specs.Sizes.{filters, needed}
@@ -24,7 +24,7 @@ use Rattle.one_voxel.specs.Call.{lent_source, voxel_of, voxel_call_of, voxel_cal
 -- ---- the value, by the three records
 module _ (order : ℕ) (mode : BorderMode) (xa ya za : Axis) (xs : List Float) (i j k : ℕ) {x y z : Point} (ex : x ≡ point_at order mode xa i) (ey : y ≡ point_at order mode ya j) (ez : z ≡ point_at order mode za k) where
   abbrev marks : Bool
-  marks = is_kept_mark x.mark && is_kept_mark y.mark && is_kept_mark z.mark
+  marks = is_kept x.mark && is_kept y.mark && is_kept z.mark
 
   kept : marks ≡ (kept_at mode xa i && kept_at mode ya j && kept_at mode za k)
   kept = λ t. marked_kept order mode xa i ex t && marked_kept order mode ya j ey t && marked_kept order mode za k ez t

@@ -1,7 +1,7 @@
 // The value of one voxel: the records of its three indices, and the sum that they ask for.
 ghost use Rattle.std.specs.Prelude.{◌≡◌, ◌&&◌, ◌+◌, ◌*◌, ◌≤◌, length, get_or};
 ghost use Rattle.limits.specs.Limits.{longest_padded};
-ghost use Rattle.axis.specs.Point.{is_kept_mark};
+ghost use Rattle.axis.specs.Point.{is_kept};
 ghost use Rattle.axis.specs.Bookkeeping.{Reached};
 ghost use Rattle.request.specs.Sizes.{needed};
 ghost use Rattle.refusal.specs.Bookkeeping.{Admitted};
@@ -12,17 +12,17 @@ ghost use Rattle.one_voxel.specs.Bookkeeping.{Inside};
 
 use crate::sum::sum_at;
 use axis::coordinate::Axis;
-use axis::point::{Point, is_kept_mark, point_at};
+use axis::point::{Mark, Point, point_at};
 use border::BorderMode;
 use coverage::cover::{both, drop_value};
 use request::sizes::{filters, needed};
 use request::{Axes, Request};
 
 // Whether no axis drops the voxel.
-fn all_kept(x: u8, y: u8, z: u8) -> bool
-    ensures { result ≡ (is_kept_mark x && is_kept_mark y && is_kept_mark z) }
+fn all_kept(x: Mark, y: Mark, z: Mark) -> bool
+    ensures { result ≡ (is_kept x && is_kept y && is_kept z) }
 {
-    both(both(is_kept_mark(x), is_kept_mark(y)), is_kept_mark(z))
+    both(both(x.is_kept(), y.is_kept()), z.is_kept())
 }
 
 // What three records of kept indices read.

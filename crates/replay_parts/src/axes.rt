@@ -7,7 +7,7 @@ use crate::modes::mode_of;
 use answer_file::replay::{Replay, expect_float, expect_whole, refused, skip};
 use answer_file::words::{float_at, whole_at, word_at};
 use axis::coordinate::{Axis, float_of, output_length, shift_axis, zoom_axis};
-use axis::point::{Point, point_at};
+use axis::point::{Mark, Point, point_at};
 use axis::splines::build_splines;
 use border::{BorderMode, map_coordinates};
 use limits::LONGEST;
@@ -89,8 +89,13 @@ fn expect_neighbours(words: &[u64], r: Replay, at: &[usize; 6], count: usize) ->
     now
 }
 
-fn mark_of(t: Point) -> u64 {
-    t.mark as u64
+// Its number in the file.
+fn number_of(mark: Mark) -> u64 {
+    match mark {
+        Mark::Reads => 0,
+        Mark::Dropped => 1,
+        Mark::Beside => 2,
+    }
 }
 
 // A mark; after mark 0 weights and neighbours, `count` of each.
@@ -99,7 +104,7 @@ fn expect_record(words: &[u64], r: Replay, t: Point, count: usize) -> Replay
 {
     let at = r.at;
     let is_kept = word_at(words, at, 0) == 0;
-    let marked = expect_whole(words, r, mark_of(t));
+    let marked = expect_whole(words, r, number_of(t.mark));
     if is_kept {
         let weight = t.weight;
         let neighbour = t.at;

@@ -18,7 +18,7 @@ use Rattle.lists.proofs.Tabulated.{get_d_tabulate, tabulate_same}
 use Rattle.border.specs.declared.BorderMode.{BorderMode}
 use Rattle.axis.specs.declared.coordinate.Axis.{Axis}
 use Rattle.axis.specs.declared.point.Point.{Point}
-use Rattle.axis.specs.Point.{is_kept_mark, point_at}
+use Rattle.axis.specs.Point.{is_kept, point_at}
 use Rattle.axis.specs.Bookkeeping.{Reached}
 use Rattle.axis.proofs.Points.{kept_by_mark}
 use Rattle.voxels.specs.Sum.{Tap, sum_y, sum_z, sum_at}
@@ -88,7 +88,7 @@ point_planes order mode a i at size count n r e c k h =
     subst (λ (m : ℕ). (get_or at k 0 + 1) * size ≤ m) (sym c) (mul-le-mul_right size (omega arith))
 
 -- ---- the mark of a record says whether its index is kept
-pub marked_kept : (order : ℕ) (mode : BorderMode) (a : Axis) (i : ℕ) {t : Point} → t ≡ point_at order mode a i → is_kept_mark t.mark ≡ kept_at mode a i
+pub marked_kept : (order : ℕ) (mode : BorderMode) (a : Axis) (i : ℕ) {t : Point} → t ≡ point_at order mode a i → is_kept t.mark ≡ kept_at mode a i
 unfolding kept_at
 marked_kept order mode a i e = kept_by_mark order mode a i refl e
 

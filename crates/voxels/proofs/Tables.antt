@@ -22,6 +22,8 @@ use Rattle.axis.specs.declared.point.Point.{Point}
 use Rattle.axis.specs.Coordinate.{settled, kept}
 use Rattle.axis.specs.Weights.{order_on, build_splines}
 use Rattle.axis.specs.Neighbours.{first_neighbour, outside, neighbour_index}
+use Rattle.axis.specs.declared.point.Mark.{Mark}
+use Rattle.axis.specs.declared.point.Mark.TheVariants.{Reads, Dropped, Beside}
 use Rattle.axis.specs.Point.{empty, neighbours, kept_point, point_at}
 use Rattle.axis.specs.Bookkeeping.{Reached}
 use Rattle.axis.proofs.Points.{place_of, above_kept, kept_two, reached_kept}
@@ -45,7 +47,7 @@ column_more d i c l₀ l k K I e p = record {
 }
 
 -- ---- a record names places of its axis
-empty_inside : (mark k L : ℕ) → 1 ≤ L → get_or (empty mark).at k 0 < L
+empty_inside : (mark : Mark) (k L : ℕ) → 1 ≤ L → get_or (empty mark).at k 0 < L
 empty_inside mark k L l = subst (λ (n : ℕ). n < L) (sym (dite (dec_lt k 6) (λ h. get_or-replicate 6 k 0 0 h) (λ n. get_or-eq_default (replicate 6 0) 0 {n = k} (omega arith)))) (omega arith)
 
 past-tabulate : {A : Type 0} (n : ℕ) (f : ℕ → A) (d : A) (i : ℕ) → n ≤ i → get_or (tabulate n f) i d ≡ d
@@ -72,11 +74,11 @@ point_inside order mode a i k r =
     let to = settled mode a i in
     let o = order_on a.len order in
     let first = first_neighbour o to in
-    let reads : Point = record { mark = 0; weight = build_splines o to; at = neighbours mode o a.len first } in
-    at-cond (kept to) (cond (eqb o 0 && outside o a.len first) (empty 2) reads) (empty 1) k a.len
-    (λ t. at-cond (eqb o 0 && outside o a.len first) (empty 2) reads k a.len (λ _. empty_inside 2 k a.len r.least)
+    let reads : Point = record { mark = Reads; weight = build_splines o to; at = neighbours mode o a.len first } in
+    at-cond (kept to) (cond (eqb o 0 && outside o a.len first) (empty Beside) reads) (empty Dropped) k a.len
+    (λ t. at-cond (eqb o 0 && outside o a.len first) (empty Beside) reads k a.len (λ _. empty_inside Beside k a.len r.least)
     (λ n. let p = reached_kept order mode a i refl r t in neighbours_inside o mode a.len to k p.upto p.least (kept_two p n) p.most p.bound (above_kept to p.above)))
-    (λ _. empty_inside 1 k a.len r.least)
+    (λ _. empty_inside Dropped k a.len r.least)
 
 -- ---- one output index more
 pub tabled_more :

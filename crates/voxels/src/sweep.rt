@@ -14,7 +14,7 @@ ghost use Rattle.voxels.specs.Bookkeeping.{with_voxel, with_four, row_value, pla
 use crate::sum::{Four, sum_four};
 use crate::table::{TABLE, fill_table};
 use axis::coordinate::Axis;
-use axis::point::{is_kept_mark, point_at};
+use axis::point::point_at;
 use border::BorderMode;
 use coverage::cover::{both, drop_value};
 use limits::LONGEST;
@@ -221,7 +221,7 @@ fn value_plane(
     let mut j = 0;
     while j < n {
         let t = point_at(ya, j, order, mode);
-        let others = both(first, is_kept_mark(t.mark));
+        let others = both(first, t.mark.is_kept());
         let ny = t.at;
         let wy = t.weight;
         value_row(
@@ -274,7 +274,7 @@ fn value_planes(
     let mut i = 0;
     while i < n {
         let t = point_at(xa, i, order, mode);
-        let first = is_kept_mark(t.mark);
+        let first = t.mark.is_kept();
         let nx = t.at;
         let wx = t.weight;
         value_plane(

@@ -9,7 +9,7 @@ ghost use Rattle.coverage.specs.Coverage.{kept_at};
 ghost use Rattle.voxels.specs.Bookkeeping.{table_size, Tabled, Column};
 
 use axis::coordinate::Axis;
-use axis::point::{is_kept_mark, point_at};
+use axis::point::point_at;
 use border::BorderMode;
 use limits::LONGEST;
 
@@ -57,7 +57,7 @@ pub(crate) fn fill_table(
         let t = point_at(a, i, order, mode);
         let p = t.at;
         let w = t.weight;
-        kept[i] = is_kept_mark(t.mark);
+        kept[i] = t.mark.is_kept();
         put_places(at, &p, i);
         put_weights(weight, &w, i);
         i += 1;

@@ -5,4 +5,4 @@ use Rattle.one_voxel.proofs.value.all_kept.Goals as goal
 
 pub returns : goal.returns
 returns c =
-    c.both-2.ensures ∙ (λ i. (c.both.ensures ∙ (λ j. c.is_kept_mark.ensures j && c.is_kept_mark-2.ensures j)) i && c.is_kept_mark-3.ensures i)
+    c.both-2.ensures ∙ (λ i. (c.both.ensures ∙ (λ j. c.is_kept.ensures j && c.is_kept-2.ensures j)) i && c.is_kept-3.ensures i)

@@ -87,7 +87,7 @@ loop-i-preserved c =
     let a = c.args in
     let l = c.loop-i in
     let call = c.value_plane in
-    let first = c.is_kept_mark-first in
+    let first = c.is_kept-first in
     let point = c.point_at-t in (
       omega (arith, below (goal.at.loop-i-preserved c).In-loop-i),
       next_written (volume_value a.order a.mode a.«data».now (a.ya.len * a.row) a.row a.kept.now a.at.now a.weight.now a.xa a.ya a.width) nan (a.ya.out * a.width) a.xa.out l.out call.new.out l.i (below (goal.at.loop-i-preserved c).In-loop-i) l.invariant.1 call.auto.out

@@ -34,7 +34,7 @@ loop-i-preserved c =
     let l = c.loop-i in
     let r = c.requires.reaches in
     let t = c.point_at-t in
-    let k = c.is_kept_mark in
+    let k = c.is_kept in
     let at = c.put_places in
     let weight = c.put_weights in
     (omega arith, (simp length-set (omega arith), (put (kept_at a.mode a.a) false l.kept l.i k.result (k.ensures ∙ marked_kept a.order a.mode a.a l.i t.ensures) (omega (arith, c.requires)) l.invariant.1.1.0, tabled_more a.order a.mode a.a l.i l.at at.new.table l.weight weight.new.table t.result t.ensures (r.each l.i (omega arith)) (omega (arith, r.short)) at.ensures weight.ensures l.invariant.1.1.1)))
