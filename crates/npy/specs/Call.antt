@@ -2,23 +2,23 @@
 use Rattle.std.specs.Prelude.{ℕ, ◌+◌, ◌*◌, not, ◌||◌, List, [], ◌∷◌, ◌++◌, length}
 use Rattle.prefilter.specs.Volume.{count_of}
 use Rattle.request.specs.Conditions.{bad_lengths, too_large, wrong}
-use Rattle.refusal.specs.declared.Verdict.{Verdict}
-use Rattle.refusal.specs.declared.Verdict.TheVariants.{Passed, Refused}
 use Rattle.refusal.specs.declared.Refusal.TheVariants.{NotNpy, Length, Count, Buffer}
 use Rattle.refusal.specs.Refusals.{Check, when, first}
 use Rattle.npy.specs.File.{is_npy, dims_of, voxels_of, written}
+use Rattle.std.specs.Prelude.{Result, Ok, Err, ⊤}
+use Rattle.refusal.specs.declared.Refusal.{Refusal}
 
 -- the answer, and what the lent buffer then holds
 pub record NpyCall : Type 0 where
-  pub answer : Verdict
+  pub answer : Result ⊤ Refusal
   pub buffer : List ℕ
 
-abbrev pub npy_call_of : Verdict → List ℕ → NpyCall
+abbrev pub npy_call_of : Result ⊤ Refusal → List ℕ → NpyCall
 npy_call_of answer buffer = record { answer = answer; buffer = buffer }
 
-abbrev pub npy_call_by : Verdict → List ℕ → List ℕ → NpyCall
-npy_call_by Passed made held = npy_call_of Passed made
-npy_call_by (Refused why) made held = npy_call_of (Refused why) held
+abbrev pub npy_call_by : Result ⊤ Refusal → List ℕ → List ℕ → NpyCall
+npy_call_by (Ok tt) made held = npy_call_of (Ok tt) made
+npy_call_by (Err why) made held = npy_call_of (Err why) held
 
 -- ---- the checks; `dims`, `volume` and `bytes` are the lengths of these buffers
 abbrev pub npy_check : List ℕ → Check
@@ -55,9 +55,9 @@ unfolding written
 write_call d volume bytes = npy_call_by (first (write_checks d (length volume) (length bytes))) (written d volume) bytes
 
 -- 0 where the lengths are refused
-abbrev pub size_by : Verdict → List ℕ → ℕ
-size_by Passed d = size_of d
-size_by (Refused why) d = 0
+abbrev pub size_by : Result ⊤ Refusal → List ℕ → ℕ
+size_by (Ok tt) d = size_of d
+size_by (Err why) d = 0
 
 unfoldable pub size_call : List ℕ → ℕ
 size_call d = size_by (first (length_checks d)) d

@@ -9,7 +9,7 @@ ghost use Rattle.npy.specs.Call.{npy_call_of, length_checks, read_checks, write_
 use crate::file::{data_of, dims_of, is_npy};
 use crate::writer::{HEADER, put_header};
 use limits::MOST_PLACES;
-use refusal::{Refusal, Verdict};
+use refusal::Refusal;
 use request::conditions::bad_lengths;
 use request::sizes::count_of;
 use words::{read_words, write_words};
@@ -20,52 +20,44 @@ pub mod reader;
 mod writer;
 
 // Refusals 3 and 6, of lengths.
-fn length_verdict(d: [usize; 3]) -> Verdict
+fn length_verdict(d: [usize; 3]) -> Result<(), Refusal>
     ensures { result ≡ first (length_checks d) }
 {
     if bad_lengths(d) {
-        return Verdict::Refused(Refusal::Length);
+        return Err(Refusal::Length);
     }
     if count_of(d) > MOST_PLACES {
-        return Verdict::Refused(Refusal::Count);
+        return Err(Refusal::Count);
     }
-    Verdict::Passed
+    Ok(())
 }
 
-fn read_verdict(file: &[u8], volume: usize) -> Verdict
+fn read_verdict(file: &[u8], volume: usize) -> Result<(), Refusal>
     ensures { result ≡ first (read_checks file.now volume) }
 {
     if !is_npy(file) {
-        return Verdict::Refused(Refusal::NotNpy);
+        return Err(Refusal::NotNpy);
     }
     let d = dims_of(file);
-    match length_verdict(d) {
-        Verdict::Passed => {
-            if volume != count_of(d) {
-                return Verdict::Refused(Refusal::Buffer);
-            }
-            Verdict::Passed
-        }
-        Verdict::Refused(why) => Verdict::Refused(why),
+    length_verdict(d)?;
+    if volume != count_of(d) {
+        return Err(Refusal::Buffer);
     }
+    Ok(())
 }
 
-fn write_verdict(d: [usize; 3], volume: usize, bytes: usize) -> Verdict
+fn write_verdict(d: [usize; 3], volume: usize, bytes: usize) -> Result<(), Refusal>
     ensures { result ≡ first (write_checks d volume bytes) }
 {
-    match length_verdict(d) {
-        Verdict::Passed => {
-            let count = count_of(d);
-            if volume != count {
-                return Verdict::Refused(Refusal::Buffer);
-            }
-            if bytes != HEADER + count * 8 {
-                return Verdict::Refused(Refusal::Buffer);
-            }
-            Verdict::Passed
-        }
-        Verdict::Refused(why) => Verdict::Refused(why),
+    length_verdict(d)?;
+    let count = count_of(d);
+    if volume != count {
+        return Err(Refusal::Buffer);
     }
+    if bytes != HEADER + count * 8 {
+        return Err(Refusal::Buffer);
+    }
+    Ok(())
 }
 
 fn put_dims(dims: &mut [usize], d: [usize; 3])
@@ -78,30 +70,26 @@ fn put_dims(dims: &mut [usize], d: [usize; 3])
 }
 
 // The lengths of any file of the kind, whether or not it can be read.
-pub fn dims(file: &[u8], dims: &mut [usize]) -> Verdict
+pub fn dims(file: &[u8], dims: &mut [usize]) -> Result<(), Refusal>
     ensures { npy_call_of result dims.new ≡ dims_call file.now dims.old }
 {
     if !is_npy(file) {
-        return Verdict::Refused(Refusal::NotNpy);
+        return Err(Refusal::NotNpy);
     }
     if dims.len() != 3 {
-        return Verdict::Refused(Refusal::Buffer);
+        return Err(Refusal::Buffer);
     }
     put_dims(dims, dims_of(file));
-    Verdict::Passed
+    Ok(())
 }
 
 // The voxels of a file.
-pub fn read(file: &[u8], volume: &mut [u64]) -> Verdict
+pub fn read(file: &[u8], volume: &mut [u64]) -> Result<(), Refusal>
     ensures { npy_call_of result volume.new ≡ read_call file.now volume.old }
 {
-    match read_verdict(file, volume.len()) {
-        Verdict::Passed => {
-            read_words(volume, data_of(file));
-            Verdict::Passed
-        }
-        Verdict::Refused(why) => Verdict::Refused(why),
-    }
+    read_verdict(file, volume.len())?;
+    read_words(volume, data_of(file));
+    Ok(())
 }
 
 // How many bytes the file of a volume has; 0 where its lengths are refused.
@@ -109,21 +97,17 @@ pub fn size(d: [usize; 3]) -> usize
     ensures { result ≡ size_call d }
 {
     match length_verdict(d) {
-        Verdict::Passed => HEADER + count_of(d) * 8,
-        Verdict::Refused(_) => 0,
+        Ok(_) => HEADER + count_of(d) * 8,
+        Err(_) => 0,
     }
 }
 
 // The file of a volume.
-pub fn write(d: [usize; 3], volume: &[u64], bytes: &mut [u8]) -> Verdict
+pub fn write(d: [usize; 3], volume: &[u64], bytes: &mut [u8]) -> Result<(), Refusal>
     ensures { npy_call_of result bytes.new ≡ write_call d volume.now bytes.old }
 {
-    match write_verdict(d, volume.len(), bytes.len()) {
-        Verdict::Passed => {
-            put_header(bytes, d);
-            write_words(&mut bytes[HEADER..], volume);
-            Verdict::Passed
-        }
-        Verdict::Refused(why) => Verdict::Refused(why),
-    }
+    write_verdict(d, volume.len(), bytes.len())?;
+    put_header(bytes, d);
+    write_words(&mut bytes[HEADER..], volume);
+    Ok(())
 }

@@ -2,7 +2,7 @@
 use crate::records::Record;
 use answer_file::replay::Replay;
 use npy::{dims, read, size, write};
-use refusal::{Refusal, Verdict, number_by};
+use refusal::{Refusal, number_in};
 
 // What the buffers hold before a call: a length, and the bits of a voxel, that no record has.
 const NO_LENGTH: usize = 987654321;
@@ -17,11 +17,11 @@ pub fn expect_dims(r: &mut Replay, record: Record, file: &[u8]) {
     let mut lengths = [NO_LENGTH; 3];
     let answer = dims(file, &mut lengths);
     let (wanted, wanted_lengths) = if record.is_npy() {
-        (Verdict::Passed, record.lengths())
+        (Ok(()), record.lengths())
     } else {
-        (Verdict::Refused(Refusal::NotNpy), [NO_LENGTH; 3])
+        (Err(Refusal::NotNpy), [NO_LENGTH; 3])
     };
-    r.count(number_by(answer) == number_by(wanted));
+    r.count(number_in(answer) == number_in(wanted));
     for (length, wanted) in lengths.iter().zip(&wanted_lengths) {
         r.count(length == wanted);
     }
@@ -53,6 +53,6 @@ pub fn expect_write(r: &mut Replay, record: Record, file: &[u8], volume: &mut [u
     let mut room = [0u8; WRITTEN_ROOM];
     let written = &mut room[..n];
     let answer = write(lengths, volume, written);
-    r.count(number_by(answer) == number_by(Verdict::Passed));
+    r.count(answer.is_ok());
     r.count(record.has_written(file == written));
 }

@@ -12,7 +12,7 @@ use answer_file::replay::Replay;
 use answer_file::words::Words;
 use compare::{NO_VOXEL, expect_dims, expect_read, expect_write};
 use records::{Maker, Record, Records};
-use refusal::{Refusal, Verdict};
+use refusal::Refusal;
 use std::io;
 
 // The places of the buffers: of a file, and of a volume.
@@ -56,7 +56,7 @@ fn replay_line<F: Fn(&mut Replay<'_>, Record<'_>, &[u8], &mut [u64])>(
 }
 
 // How many records are of this maker and have this answer.
-fn records_for(file: Words, maker: Maker, answer: Verdict) -> usize {
+fn records_for(file: Words, maker: Maker, answer: Result<(), Refusal>) -> usize {
     Records::new(file)
         .filter(|record| record.maker() == Some(maker) && record.has_answer(answer))
         .count()
@@ -65,10 +65,10 @@ fn records_for(file: Words, maker: Maker, answer: Verdict) -> usize {
 fn say_maker(rt: &impl Print, file: Words, maker: Maker, name: &str) -> io::Result<()> {
     print!(rt; "{name}: answers 0 3 7 10:")?;
     for answer in [
-        Verdict::Passed,
-        Verdict::Refused(Refusal::Length),
-        Verdict::Refused(Refusal::Buffer),
-        Verdict::Refused(Refusal::NotNpy),
+        Ok(()),
+        Err(Refusal::Length),
+        Err(Refusal::Buffer),
+        Err(Refusal::NotNpy),
     ] {
         print!(rt; " {}", records_for(file, maker, answer))?;
     }

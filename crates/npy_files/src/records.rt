@@ -2,7 +2,7 @@
 ghost use Rattle.std.specs.Iterator.{at_most};
 
 use answer_file::words::Words;
-use refusal::{Refusal, Verdict, number_by};
+use refusal::{Refusal, number_in};
 
 // The words of a record before the file's bytes.
 const HEAD: usize = 8;
@@ -37,16 +37,16 @@ impl<'a> Record<'a> {
     }
 
     // Whether this is what the reader must answer.
-    pub fn has_answer(self, answer: Verdict) -> bool {
-        self.0.word(3) == u64::from(number_by(answer))
+    pub fn has_answer(self, answer: Result<(), Refusal>) -> bool {
+        self.0.word(3) == u64::from(number_in(answer))
     }
 
     pub fn is_npy(self) -> bool {
-        !self.has_answer(Verdict::Refused(Refusal::NotNpy))
+        !self.has_answer(Err(Refusal::NotNpy))
     }
 
     pub fn is_read(self) -> bool {
-        self.has_answer(Verdict::Passed)
+        self.has_answer(Ok(()))
     }
 
     pub fn lengths(self) -> [usize; 3] {

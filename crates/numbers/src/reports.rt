@@ -1,10 +1,12 @@
 // What a caller is told: a number, and counts.
 ghost use Rattle.std.specs.Prelude.{◌≡◌, length};
-ghost use Rattle.resample.specs.Call.{number_in, counts_in};
+ghost use Rattle.refusal.specs.Refusals.{number_in};
+ghost use Rattle.resample.specs.Call.{counts_in};
 ghost use Rattle.numbers.specs.Numbers.{places, tally, cleared};
 
 use coverage::counts::Counts;
-use resample::{Answer, counts_in, number_in};
+use refusal::{Refusal, number_in};
+use resample::counts_in;
 
 // The places of `counts`: one for each code.
 pub const PLACES: usize = 4;
@@ -20,7 +22,7 @@ fn put(counts: &mut [u64], c: Counts)
 }
 
 // The answer's number; its counts are written.
-pub fn report(counts: &mut [u64], answer: Answer) -> u32
+pub fn report(counts: &mut [u64], answer: Result<Counts, Refusal>) -> u32
     requires { length counts.old ≡ places }
     ensures { (result ≡ number_in answer) × (counts.new ≡ tally (counts_in answer)) }
 {

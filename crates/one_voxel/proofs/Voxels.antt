@@ -13,13 +13,12 @@ use Rattle.request.specs.declared.Axes.{Axes}
 use Rattle.request.specs.declared.Request.{Request}
 use Rattle.request.specs.Sizes.{filters, needed}
 use Rattle.refusal.specs.declared.Refusal.{Refusal}
-use Rattle.refusal.specs.declared.Verdict.{Verdict}
-use Rattle.refusal.specs.declared.Verdict.TheVariants.{Passed, Refused}
 use Rattle.coverage.specs.Coverage.{kept_at, drop_value}
 use Rattle.voxels.specs.Voxel.{tap_of, computed, voxel_at}
 use Rattle.voxels.proofs.Sweeping.{marked_kept}
 use Rattle.one_voxel.specs.declared.Voxel.{Voxel}
 use Rattle.one_voxel.specs.Call.{lent_source, voxel_of, voxel_call_of, voxel_call_by}
+use Rattle.std.specs.Prelude.{Result, Ok, Err, ⊤}
 
 -- ---- the value, by the three records
 module _ (order : ℕ) (mode : BorderMode) (xa ya za : Axis) (xs : List Float) (i j k : ℕ) {x y z : Point} (ex : x ≡ point_at order mode xa i) (ey : y ≡ point_at order mode ya j) (ez : z ≡ point_at order mode za k) where
@@ -48,14 +47,14 @@ module _ (r : Request) (input work : List Float) where
   from_input f = simp f
 
 -- ---- the call, by its verdict
-module _ (value : List Float) (code : List ℕ) {v : Verdict} where
+module _ (value : List Float) (code : List ℕ) {v : Result ⊤ Refusal} where
   pub voxel_passed :
-      (r : Request) (input work : List Float) (at : List ℕ) (a' a : Axes) {w : Voxel} {value' : List Float} {code' : List ℕ} → v ≡ Passed → a' ≡ a → w ≡ voxel_of r a' input work at → value' ≡ w.value ∷ [] → code' ≡ w.code ∷ [] →
-      voxel_call_of Passed value' code' ≡ voxel_call_by v (voxel_of r a input work at) value code
+      (r : Request) (input work : List Float) (at : List ℕ) (a' a : Axes) {w : Voxel} {value' : List Float} {code' : List ℕ} → v ≡ Ok tt → a' ≡ a → w ≡ voxel_of r a' input work at → value' ≡ w.value ∷ [] → code' ≡ w.code ∷ [] →
+      voxel_call_of (Ok tt) value' code' ≡ voxel_call_by v (voxel_of r a input work at) value code
   voxel_passed r input work at a' a q e own ev ec =
-      (λ t. voxel_call_of Passed (ev t) (ec t))
-      ∙ ap (λ (w : Voxel). voxel_call_of Passed (w.value ∷ []) (w.code ∷ [])) (own ∙ ap (λ (b : Axes). voxel_of r b input work at) e)
-      ∙ ap (λ (u : Verdict). voxel_call_by u (voxel_of r a input work at) value code) (sym q)
+      (λ t. voxel_call_of (Ok tt) (ev t) (ec t))
+      ∙ ap (λ (w : Voxel). voxel_call_of (Ok tt) (w.value ∷ []) (w.code ∷ [])) (own ∙ ap (λ (b : Axes). voxel_of r b input work at) e)
+      ∙ ap (λ (u : Result ⊤ Refusal). voxel_call_by u (voxel_of r a input work at) value code) (sym q)
 
-  pub voxel_refused : (w : Voxel) (why : Refusal) → v ≡ Refused why → voxel_call_of (Refused why) value code ≡ voxel_call_by v w value code
-  voxel_refused w why q = ap (λ (u : Verdict). voxel_call_by u w value code) (sym q)
+  pub voxel_refused : (w : Voxel) (why : Refusal) → v ≡ Err why → voxel_call_of (Err why) value code ≡ voxel_call_by v w value code
+  voxel_refused w why q = ap (λ (u : Result ⊤ Refusal). voxel_call_by u w value code) (sym q)

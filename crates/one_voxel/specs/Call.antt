@@ -3,12 +3,12 @@ use Rattle.std.specs.Prelude.{ℕ, cond, List, [], ◌∷◌, length, get_or, ta
 use Rattle.request.specs.declared.Axes.{Axes}
 use Rattle.request.specs.declared.Request.{Request}
 use Rattle.request.specs.Sizes.{filters, needed, shift_axes, zoom_axes}
-use Rattle.refusal.specs.declared.Verdict.{Verdict}
-use Rattle.refusal.specs.declared.Verdict.TheVariants.{Passed, Refused}
 use Rattle.refusal.specs.Refusals.{first, shift_voxel_checks, zoom_voxel_checks}
 use Rattle.coverage.specs.Coverage.{own_code}
 use Rattle.voxels.specs.Voxel.{voxel_at}
 use Rattle.one_voxel.specs.declared.Voxel.{Voxel}
+use Rattle.std.specs.Prelude.{Result, Ok, Err, ⊤}
+use Rattle.refusal.specs.declared.Refusal.{Refusal}
 
 -- "Where prefilter applies it reads the coefficients lent in work": its first places, as many as are needed, whatever numbers stand there
 unfoldable pub lent_source : Request → List Float → List Float → List Float
@@ -25,16 +25,16 @@ voxel_of r a input work at =
 
 -- ---- a call: the verdict, and what the one place lent for the value and the one for the code then hold
 pub record VoxelCall : Type 0 where
-  pub answer : Verdict
+  pub answer : Result ⊤ Refusal
   pub value : List Float
   pub code : List ℕ
 
-abbrev pub voxel_call_of : Verdict → List Float → List ℕ → VoxelCall
+abbrev pub voxel_call_of : Result ⊤ Refusal → List Float → List ℕ → VoxelCall
 voxel_call_of answer value code = record { answer = answer; value = value; code = code }
 
-abbrev pub voxel_call_by : Verdict → Voxel → List Float → List ℕ → VoxelCall
-voxel_call_by Passed v value code = voxel_call_of Passed (v.value ∷ []) (v.code ∷ [])
-voxel_call_by (Refused why) v value code = voxel_call_of (Refused why) value code
+abbrev pub voxel_call_by : Result ⊤ Refusal → Voxel → List Float → List ℕ → VoxelCall
+voxel_call_by (Ok tt) v value code = voxel_call_of (Ok tt) (v.value ∷ []) (v.code ∷ [])
+voxel_call_by (Err why) v value code = voxel_call_of (Err why) value code
 
 unfoldable pub shift_voxel_call : Request → List Float → List Float → List ℕ → List Float → List ℕ → VoxelCall
 unfolding voxel_of

@@ -5,24 +5,24 @@ use Rattle.axis.specs.declared.coordinate.Axis.{Axis}
 use Rattle.axis.specs.Coordinate.{pad_of, shift_axis, zoom_axis, settled}
 use Rattle.axis.specs.Length.{output_length}
 use Rattle.axis.specs.Point.{point_at}
-use Rattle.refusal.specs.declared.Verdict.{Verdict}
-use Rattle.refusal.specs.declared.Verdict.TheVariants.{Passed, Refused}
 use Rattle.refusal.specs.Refusals.{first, shift_point_checks, zoom_point_checks}
+use Rattle.std.specs.Prelude.{Result, Ok, Err, ⊤}
+use Rattle.refusal.specs.declared.Refusal.{Refusal}
 
 -- a call: the verdict, and what the places lent for the coordinate, for six neighbours and for six weights then hold
 pub record PointCall : Type 0 where
-  pub answer : Verdict
+  pub answer : Result ⊤ Refusal
   pub coordinate : List Float
   pub at : List ℕ
   pub weight : List Float
 
-abbrev pub point_call_of : Verdict → List Float → List ℕ → List Float → PointCall
+abbrev pub point_call_of : Result ⊤ Refusal → List Float → List ℕ → List Float → PointCall
 point_call_of answer coordinate at weight = record { answer = answer; coordinate = coordinate; at = at; weight = weight }
 
 -- the settled coordinate, of which the mark is made, and the record's neighbours and weights: places of what the sums read, pads included
-abbrev pub point_call_by : Verdict → ℕ → BorderMode → Axis → ℕ → List Float → List ℕ → List Float → PointCall
-point_call_by Passed order mode a i coordinate at weight = point_call_of Passed (settled mode a i ∷ []) (point_at order mode a i).at (point_at order mode a i).weight
-point_call_by (Refused why) order mode a i coordinate at weight = point_call_of (Refused why) coordinate at weight
+abbrev pub point_call_by : Result ⊤ Refusal → ℕ → BorderMode → Axis → ℕ → List Float → List ℕ → List Float → PointCall
+point_call_by (Ok tt) order mode a i coordinate at weight = point_call_of (Ok tt) (settled mode a i ∷ []) (point_at order mode a i).at (point_at order mode a i).weight
+point_call_by (Err why) order mode a i coordinate at weight = point_call_of (Err why) coordinate at weight
 
 -- of an axis of n voxels
 unfoldable pub shift_point_call : ℕ → Float → ℕ → Bool → BorderMode → ℕ → List Float → List ℕ → List Float → PointCall

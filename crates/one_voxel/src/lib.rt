@@ -11,7 +11,7 @@ ghost use Rattle.one_voxel.specs.Bookkeeping.{Inside};
 
 use crate::value::value_of;
 use coverage::cover::own_code;
-use refusal::Verdict;
+use refusal::Refusal;
 use refusal::verdicts::{shift_voxel_verdict, zoom_voxel_verdict};
 use request::sizes::{shift_axes, zoom_axes, zoom_dims};
 use request::{Axes, Request};
@@ -57,16 +57,12 @@ pub fn shift_voxel(
     at: [usize; 3],
     value: &mut [f64],
     code: &mut [u8],
-) -> Verdict
+) -> Result<(), Refusal>
     ensures { voxel_call_of result value.new code.new ≡ shift_voxel_call r input.now work.now at value.old code.old }
 {
-    match shift_voxel_verdict(r, input, value.len(), code.len(), work.len(), at) {
-        Verdict::Passed => {
-            put(value, code, voxel_of(r, shift_axes(r), input, work, at));
-            Verdict::Passed
-        }
-        Verdict::Refused(why) => Verdict::Refused(why),
-    }
+    shift_voxel_verdict(r, input, value.len(), code.len(), work.len(), at)?;
+    put(value, code, voxel_of(r, shift_axes(r), input, work, at));
+    Ok(())
 }
 
 pub fn zoom_voxel(
@@ -76,15 +72,11 @@ pub fn zoom_voxel(
     at: [usize; 3],
     value: &mut [f64],
     code: &mut [u8],
-) -> Verdict
+) -> Result<(), Refusal>
     ensures { voxel_call_of result value.new code.new ≡ zoom_voxel_call r input.now work.now at value.old code.old }
 {
-    match zoom_voxel_verdict(r, input, value.len(), code.len(), work.len(), at) {
-        Verdict::Passed => {
-            let a = zoom_axes(r, zoom_dims(r));
-            put(value, code, voxel_of(r, a, input, work, at));
-            Verdict::Passed
-        }
-        Verdict::Refused(why) => Verdict::Refused(why),
-    }
+    zoom_voxel_verdict(r, input, value.len(), code.len(), work.len(), at)?;
+    let a = zoom_axes(r, zoom_dims(r));
+    put(value, code, voxel_of(r, a, input, work, at));
+    Ok(())
 }

@@ -9,7 +9,7 @@ ghost use Rattle.one_voxel.specs.Points.{point_call_of, shift_point_call, zoom_p
 use axis::coordinate::{Axis, output_length, pad_of, settled_at, shift_axis, zoom_axis};
 use axis::point::{Point, point_at};
 use border::BorderMode;
-use refusal::Verdict;
+use refusal::Refusal;
 use refusal::points::{shift_point_verdict, zoom_point_verdict};
 
 fn put_six(at: &mut [usize], weight: &mut [f64], p: Point)
@@ -53,10 +53,10 @@ pub fn shift_point(
     coordinate: &mut [f64],
     at: &mut [usize],
     weight: &mut [f64],
-) -> Verdict
+) -> Result<(), Refusal>
     ensures { point_call_of result coordinate.new at.new weight.new ≡ shift_point_call length shift order prefilter mode i coordinate.old at.old weight.old }
 {
-    match shift_point_verdict(
+    shift_point_verdict(
         length,
         shift,
         order,
@@ -66,14 +66,10 @@ pub fn shift_point(
         coordinate.len(),
         at.len(),
         weight.len(),
-    ) {
-        Verdict::Passed => {
-            let a = shift_axis(length, shift, pad_of(mode, prefilter, order, length));
-            put_point(order, mode, a, i, coordinate, at, weight);
-            Verdict::Passed
-        }
-        Verdict::Refused(why) => Verdict::Refused(why),
-    }
+    )?;
+    let a = shift_axis(length, shift, pad_of(mode, prefilter, order, length));
+    put_point(order, mode, a, i, coordinate, at, weight);
+    Ok(())
 }
 
 pub fn zoom_point(
@@ -86,10 +82,10 @@ pub fn zoom_point(
     coordinate: &mut [f64],
     at: &mut [usize],
     weight: &mut [f64],
-) -> Verdict
+) -> Result<(), Refusal>
     ensures { point_call_of result coordinate.new at.new weight.new ≡ zoom_point_call length factor order prefilter mode i coordinate.old at.old weight.old }
 {
-    match zoom_point_verdict(
+    zoom_point_verdict(
         length,
         factor,
         order,
@@ -99,16 +95,12 @@ pub fn zoom_point(
         coordinate.len(),
         at.len(),
         weight.len(),
-    ) {
-        Verdict::Passed => {
-            let a = zoom_axis(
-                length,
-                output_length(length, factor),
-                pad_of(mode, prefilter, order, length),
-            );
-            put_point(order, mode, a, i, coordinate, at, weight);
-            Verdict::Passed
-        }
-        Verdict::Refused(why) => Verdict::Refused(why),
-    }
+    )?;
+    let a = zoom_axis(
+        length,
+        output_length(length, factor),
+        pad_of(mode, prefilter, order, length),
+    );
+    put_point(order, mode, a, i, coordinate, at, weight);
+    Ok(())
 }

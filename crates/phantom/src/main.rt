@@ -5,8 +5,10 @@
 ghost use Rattle.std.specs.Prelude.{◌≤◌};
 
 use border::BorderMode;
+use coverage::counts::Counts;
+use refusal::Refusal;
 use request::Request;
-use resample::{Answer, counts_in, number_in, shift};
+use resample::{counts_in, shift};
 use std::io;
 use steps::{ALL, NEAR, Steps, VOXELS};
 use volume::{FILL, moved_wrong, phantom, returned_wrong};
@@ -54,13 +56,13 @@ fn ask(steps: Steps, order: usize, prefilter: bool) -> Request {
 }
 
 // Whether the shift was done, its counts are right and no voxel is wrong.
-fn is_exact(answer: Answer, staying: usize, wrong: usize) -> bool
+fn is_exact(answer: Result<Counts, Refusal>, staying: usize, wrong: usize) -> bool
     requires { staying ≤ 60 }
 {
     let counts = counts_in(answer);
     let inside = counts.computed == staying && counts.filled == VOXELS - staying;
     let others = counts.defaulted == 0 && counts.folded == 0;
-    number_in(answer) == 0 && inside && others && wrong == 0
+    answer.is_ok() && inside && others && wrong == 0
 }
 
 // One shift of the phantom, at the order `there`, and its opposite, at the order `back`. The buffers

@@ -15,13 +15,11 @@ use Rattle.prefilter.specs.Volume.{count_of}
 use Rattle.request.specs.declared.Request.{Request}
 use Rattle.request.specs.Sizes.{filters, needed, zoom_dims}
 use Rattle.request.specs.Conditions.{wrong, too_short, bad_index, bad_indices}
-use Rattle.refusal.specs.declared.Verdict.{Verdict}
-use Rattle.refusal.specs.declared.Verdict.TheVariants.{Passed}
 use Rattle.refusal.specs.declared.Refusal.TheVariants.{Index}
-use Rattle.refusal.specs.Refusals.{when, first, number_by}
+use Rattle.refusal.specs.Refusals.{when, first, number_in}
 use Rattle.refusal.proofs.Firsts.{all_clear, clear_passes}
 use Rattle.voxels.specs.Voxel.{voxel_at}
-use Rattle.resample.specs.Call.{coefficients, number_in}
+use Rattle.resample.specs.Call.{coefficients}
 use Rattle.resample.proofs.Preparing.{unfiltered}
 use Rattle.one_voxel.specs.Call.{VoxelCall, lent_source, voxel_of, voxel_call_of, voxel_call_by, shift_voxel_call, zoom_voxel_call}
 use Rattle.one_voxel.proofs.Voxels.{from_work, from_input}
@@ -33,6 +31,8 @@ use Rattle.promises.proofs.Given.{but_last, of_front, voxel_refusal_exactly}
 use Rattle.promises.proofs.Succeeding.{by_verdict, succeeds}
 use Rattle.promises.proofs.Places.{code_is, voxel_is}
 use Rattle.promises.proofs.Working.{work_filtered}
+use Rattle.std.specs.Prelude.{Result, Ok, ⊤}
+use Rattle.refusal.specs.declared.Refusal.{Refusal}
 
 -- ---- 11
 -- what the last check asks
@@ -59,7 +59,7 @@ module _ (r : Request) (input work : List Float) (at : List ℕ) (value : List F
   before_last zooming h = of_front (earlier (voxel_checks zooming r input (length value) (length code) (length work) at) 11) (when Index (bad_indices (zoom_dims r) at)) refl h
 
   -- exactly where an index is at or beyond its output length and no other refusal applies
-  pub eleven_exactly : (e : Entry) → (number_by (voxel_call e r input work at value code).answer ≡ 11) ↔ (NoneBut (voxel_checks e r input (length value) (length code) (length work) at) 11 × Beyond (output_dims e r) at)
+  pub eleven_exactly : (e : Entry) → (number_in (voxel_call e r input work at value code).answer ≡ 11) ↔ (NoneBut (voxel_checks e r input (length value) (length code) (length work) at) 11 × Beyond (output_dims e r) at)
   eleven_exactly e =
       let given = voxel_refusal_exactly e r input work at value code 11 (lit≤ tt) in (
         λ q. let h = given.0 q in (last_out e h, (beyond_some (output_dims e r) at).0 (sym (last_holds e) ∙ h.this)),
@@ -89,7 +89,7 @@ module _ (r : Request) (input : List Float) (output coverage work : ℕ) (value 
       let i = (or_false (wrong (length input) (count_of r.dims)) (wrong output places) c.0).0 in
       simp (i, one_place one, one_place one', le-ltb lent (needed r) room)
 
-  taken : (e : Entry) (i j k : ℕ) → Inside (output_dims e r) i j k → first (checks e r input output coverage work) ≡ Passed → first (voxel_checks e r input value code lent (i ∷ j ∷ k ∷ [])) ≡ Passed
+  taken : (e : Entry) (i j k : ℕ) → Inside (output_dims e r) i j k → first (checks e r input output coverage work) ≡ Ok tt → first (voxel_checks e r input value code lent (i ∷ j ∷ k ∷ [])) ≡ Ok tt
   taken shifting i j k inside e =
       let h = all_clear (checks shifting r input output coverage work) e in
       let rest = h.1.1.1.1 in
@@ -114,14 +114,14 @@ module _ (e : Entry) (r : Request) (input output : List Float) (coverage : List 
 
   -- what the call of the volume wrote there
   abbrev wrote : VoxelCall
-  wrote = voxel_call_of Passed (voxel (output_dims e r) (call e r input output coverage work).output i j k ∷ []) (code (output_dims e r) (call e r input output coverage work).coverage i j k ∷ [])
+  wrote = voxel_call_of (Ok tt) (voxel (output_dims e r) (call e r input output coverage work).output i j k ∷ []) (code (output_dims e r) (call e r input output coverage work).coverage i j k ∷ [])
 
-  is_voxel : (lent : List Float) → Lends r input lent → voxel_call_by Passed (voxel_of r (axes_of e r) input lent at) value codes ≡ wrote
+  is_voxel : (lent : List Float) → Lends r input lent → voxel_call_by (Ok tt) (voxel_of r (axes_of e r) input lent at) value codes ≡ wrote
   unfolding voxel_of
   is_voxel lent l =
       let s = succeeds r input output coverage work e done in
       let a = axes_of e r in
-      λ t. voxel_call_of Passed
+      λ t. voxel_call_of (Ok tt)
       ((ap (λ (xs : List Float). voxel_at r.order r.mode a.x a.y a.z xs i j k) (source_is r input lent l) ∙ sym (voxel_is e r input output coverage work s i j k inside)) t ∷ [])
       (sym (code_is e r input output coverage work s i j k inside) t ∷ [])
 
@@ -132,9 +132,9 @@ module _ (e : Entry) (r : Request) (input output : List Float) (coverage : List 
       let passed = taken r input (length output) (length coverage) (length work) (length value) (length codes) (length lent) one one' l.room e i j k inside (by_verdict r input output coverage work e done) in
       by_entry e lent passed ∙ is_voxel lent l
     where
-      by_entry : (e : Entry) (lent : List Float) → first (voxel_checks e r input (length value) (length codes) (length lent) at) ≡ Passed → voxel_call e r input lent at value codes ≡ voxel_call_by Passed (voxel_of r (axes_of e r) input lent at) value codes
-      by_entry shifting lent p = ap (λ (v : Verdict). voxel_call_by v (voxel_of r (axes_of shifting r) input lent at) value codes) p
-      by_entry zooming lent p = ap (λ (v : Verdict). voxel_call_by v (voxel_of r (axes_of zooming r) input lent at) value codes) p
+      by_entry : (e : Entry) (lent : List Float) → first (voxel_checks e r input (length value) (length codes) (length lent) at) ≡ Ok tt → voxel_call e r input lent at value codes ≡ voxel_call_by (Ok tt) (voxel_of r (axes_of e r) input lent at) value codes
+      by_entry shifting lent p = ap (λ (v : Result ⊤ Refusal). voxel_call_by v (voxel_of r (axes_of shifting r) input lent at) value codes) p
+      by_entry zooming lent p = ap (λ (v : Result ⊤ Refusal). voxel_call_by v (voxel_of r (axes_of zooming r) input lent at) value codes) p
 
   -- and so with the work that the call of the volume left
   pub alone_after_volume : voxel_call e r input (call e r input output coverage work).work at value codes ≡ wrote

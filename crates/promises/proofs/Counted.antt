@@ -10,12 +10,13 @@ use Rattle.lists.proofs.Tabulated.{length-tabulate, get_d_tabulate}
 use Rattle.axis.specs.declared.coordinate.Axis.{Axis}
 use Rattle.axis.specs.Folded.{folded_at}
 use Rattle.border.specs.declared.BorderMode.{BorderMode}
+use Rattle.refusal.specs.Refusals.{number_in}
 use Rattle.coverage.specs.declared.counts.Counts.{Counts}
 use Rattle.coverage.specs.Coverage.{kept_at, own_code, own_codes, x_of, y_of, z_of, none, with_code, counts_from, counts_of, total}
 use Rattle.voxels.specs.Voxel.{values}
 use Rattle.coverage.proofs.Counting.{total_is}
 use Rattle.request.specs.declared.Request.{Request}
-use Rattle.resample.specs.Call.{Call, number_in, counts_in, coefficients}
+use Rattle.resample.specs.Call.{Call, counts_in, coefficients}
 use Rattle.promises.specs.Entries.{Entry, call, axes_of}
 use Rattle.promises.specs.Marks.{bearing}
 use Rattle.promises.proofs.Succeeding.{succeeds}

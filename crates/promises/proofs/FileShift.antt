@@ -9,12 +9,10 @@ use lib.Ieee.{Float, binary64, fits}
 use Rattle.border.specs.declared.BorderMode.TheVariants.{Constant}
 use Rattle.prefilter.specs.Volume.{count_of}
 use Rattle.request.specs.declared.Request.{Request}
-use Rattle.refusal.specs.declared.Verdict.TheVariants.{Passed}
-use Rattle.refusal.specs.Refusals.{first}
+use Rattle.refusal.specs.Refusals.{first, number_in}
 use Rattle.npy.specs.File.{dims_of, voxels_of}
 use Rattle.npy.specs.Call.{NpyCall, length_checks, read_call}
 use Rattle.npy.proofs.Files.{three_dims}
-use Rattle.resample.specs.Call.{number_in}
 use Rattle.promises.specs.Entries.{shifting, call, output_dims}
 use Rattle.promises.specs.Moves.{Whole, Moved, Returned}
 use Rattle.promises.specs.Files.{volume_of, Lent, call_on, resampled, Goes}
@@ -24,6 +22,7 @@ use Rattle.promises.proofs.Returning.{returns, shift_back}
 use Rattle.promises.proofs.Files.{lengths_pass, reads_voxels}
 use Rattle.promises.proofs.FileToFile.{entry_done, entry_succeeds, admits, file_read_again, entry_marks}
 use Rattle.promises.proofs.FileBits.{volume_f64}
+use Rattle.std.specs.Prelude.{Ok}
 
 module _ {r : Request} {from to codes : List ℕ} (g : Goes shifting r from to codes) where
   pub file_shift : {fill : Float} {s : ℕ → ℤ} → r.mode ≡ Constant fill → r.order ≤ 1 → Whole r s → Moved (dims_of from) s fill (volume_of (voxels_of from)) (volume_of (voxels_of to)) codes
@@ -56,7 +55,7 @@ pub file_shift_again :
     Goes shifting r from to codes → r.mode ≡ Constant fill → r.order ≤ 1 → Whole r s → T (fits binary64 fill) →
     (back : Request) (lent : Lent) → back.dims ≡ dims_of to → back.mode ≡ Constant fill → back.order ≤ 1 → Whole back (λ i. neg_ℤ (s i)) →
     length lent.volume ≡ count_of (dims_of to) → length lent.output ≡ count_of (dims_of to) → length lent.coverage ≡ count_of (dims_of to) →
-    ((read_call to lent.volume).answer ≡ Passed) × (number_in (resampled shifting back to lent).answer ≡ 0)
+    ((read_call to lent.volume).answer ≡ Ok tt) × (number_in (resampled shifting back to lent).answer ≡ 0)
 file_shift_again {r} {from} {to} {codes} {fill} {s} g constant low whole fill64 back lent dims constant' low' whole' volume output coverage =
     let input = volume_of (voxels_of from) in
     let l = g.lent in
@@ -66,7 +65,7 @@ file_shift_again {r} {from} {to} {codes} {fill} {s} g constant low whole fill64 
     let same = shift_dims g ∙ sym g.resamples.asked in
     let count = ap count_of same in
     let h = (shift_back r input l.output l.coverage l.work fill s constant low whole (volume_f64 (voxels_of from)) fill64 (λ n _. clear n) back lent.output lent.coverage lent.work (dims ∙ same) constant' low' whole' (output ∙ count ∙ sym p.values) (coverage ∙ count ∙ sym p.codes)).0 in
-    let lengths = subst (λ (d : List ℕ). first (length_checks d) ≡ Passed) (sym again.1) (lengths_pass (output_dims shifting r) (admits g.resamples).0 (admits g.resamples).1) in
+    let lengths = subst (λ (d : List ℕ). first (length_checks d) ≡ Ok tt) (sym again.1) (lengths_pass (output_dims shifting r) (admits g.resamples).0 (admits g.resamples).1) in
     let read = reads_voxels to lent.volume (voxels_of to) again.0 lengths volume refl in (
       ap (λ (c : NpyCall). c.answer) read,
       ap (λ (c : NpyCall). number_in (call_on shifting back c.buffer lent).answer) read

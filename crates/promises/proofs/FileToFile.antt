@@ -15,8 +15,8 @@ use Rattle.request.proofs.Requests.{good_lengths, good_outputs}
 use Rattle.npy.specs.File.{is_npy, dims_of, voxels_of, written}
 use Rattle.npy.specs.Call.{NpyCall, npy_call_of, size_of, write_call}
 use Rattle.npy.proofs.RoundTrip.{written_dims, written_is_npy, written_voxels}
-use Rattle.refusal.specs.declared.Verdict.TheVariants.{Passed}
-use Rattle.resample.specs.Call.{Call, values_of, codes_of, number_in}
+use Rattle.refusal.specs.Refusals.{number_in}
+use Rattle.resample.specs.Call.{Call, values_of, codes_of}
 use Rattle.promises.specs.Entries.{Entry, shifting, zooming, call, axes_of, output_dims}
 use Rattle.promises.specs.Filings.{reading, writing}
 use Rattle.promises.specs.Files.{volume_of, Lent, call_on, resampled, Resamples, Goes}
@@ -24,6 +24,7 @@ use Rattle.promises.proofs.Given.{success_exactly}
 use Rattle.promises.proofs.Succeeding.{Succeeds, succeeds}
 use Rattle.promises.proofs.Counted.{counted}
 use Rattle.promises.proofs.Files.{file_success_leaves, lengths_pass, writes_file}
+use Rattle.std.specs.Prelude.{Ok}
 
 -- ---- what the refusals have let pass: lengths and a count that are the writer's to take, and no wild voxel
 module _ (r : Request) (input output : List Float) (coverage : List ℕ) (work : List Float) where
@@ -61,7 +62,7 @@ module _ {e : Entry} {r : Request} {from : List ℕ} {lent : Lent} {out : List �
   admits = admitted r (volume_of (voxels_of from)) lent.output lent.coverage lent.work e entry_done
 
   -- the writer takes what the entry left
-  pub file_writes : length lent.bytes ≡ size_of (output_dims e r) → write_call (output_dims e r) out lent.bytes ≡ npy_call_of Passed (written (output_dims e r) out)
+  pub file_writes : length lent.bytes ≡ size_of (output_dims e r) → write_call (output_dims e r) out lent.bytes ≡ npy_call_of (Ok tt) (written (output_dims e r) out)
   file_writes = writes_file (output_dims e r) out lent.bytes (lengths_pass (output_dims e r) admits.0 admits.1) out_long
 
 module _ {e : Entry} {r : Request} {from to codes : List ℕ} (g : Goes e r from to codes) where

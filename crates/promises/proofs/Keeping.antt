@@ -17,8 +17,8 @@ use Rattle.coverage.specs.Coverage.{code_by, own_code, kept_at}
 use Rattle.request.specs.declared.Request.{Request}
 use Rattle.request.specs.Conditions.{beside_any}
 use Rattle.refusal.specs.declared.Refusal.TheVariants.{Beside}
-use Rattle.refusal.specs.Refusals.{when}
-use Rattle.resample.specs.Call.{number_in, counts_in}
+use Rattle.refusal.specs.Refusals.{when, number_in}
+use Rattle.resample.specs.Call.{counts_in}
 use Rattle.promises.specs.Entries.{Entry, shifting, zooming, call, checks, axes_of, output_dims}
 use Rattle.promises.specs.Given.{earlier, FirstToHold, NoneBut}
 use Rattle.promises.specs.Place.{Inside, code}

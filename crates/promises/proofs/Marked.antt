@@ -17,13 +17,14 @@ use Rattle.axis.specs.Point.{point_at}
 use Rattle.axis.specs.Bookkeeping.{Reached}
 use Rattle.axis.specs.Folded.{folded_at}
 use Rattle.axis.proofs.Folding.{Padded, folded_outside, inside_unfolded, unfolded_inside, outside_folded}
+use Rattle.refusal.specs.Refusals.{number_in}
 use Rattle.coverage.specs.Coverage.{own_code, code_by, drop_code, drop_value, kept_at}
 use Rattle.voxels.specs.Voxel.{tap_of, computed, voxel_at}
 use Rattle.request.specs.declared.Request.{Request}
 use Rattle.request.specs.Sizes.{padding}
 use Rattle.request.specs.Bookkeeping.{Lengths}
 use Rattle.request.proofs.Requests.{padding_most}
-use Rattle.resample.specs.Call.{number_in, coefficients}
+use Rattle.resample.specs.Call.{coefficients}
 use Rattle.promises.specs.Entries.{Entry, shifting, zooming, call, axes_of, output_dims}
 use Rattle.promises.specs.Place.{Inside, voxel, code}
 use Rattle.promises.specs.Marks.{pad_on, FromInside, FromOutside, Means}

@@ -14,8 +14,8 @@ use Rattle.coverage.specs.Coverage.{kept_at, code_by, own_code, drop_code, drop_
 use Rattle.voxels.specs.Voxel.{tap_of, computed, voxel_at}
 use Rattle.request.specs.declared.Request.{Request}
 use Rattle.refusal.specs.declared.Asked.TheVariants.{Volume}
-use Rattle.refusal.specs.Refusals.{shift_checks}
-use Rattle.resample.specs.Call.{number_in, coefficients, shift_call}
+use Rattle.refusal.specs.Refusals.{shift_checks, number_in}
+use Rattle.resample.specs.Call.{coefficients, shift_call}
 use Rattle.promises.specs.Entries.{shifting, output_dims}
 use Rattle.promises.specs.Given.{NoneBut}
 use Rattle.promises.specs.Place.{Inside, voxel, code}

@@ -8,8 +8,7 @@ use mathlib.Core.List.{List}
 use lib.ListN.{length}
 use lib.Ieee.{Float}
 use Rattle.request.specs.declared.Request.{Request}
-use Rattle.refusal.specs.Refusals.{Check}
-use Rattle.resample.specs.Call.{number_in}
+use Rattle.refusal.specs.Refusals.{Check, number_in}
 use Rattle.promises.specs.Entries.{Entry, call, checks}
 use Rattle.promises.specs.Given.{holds, NoneBut}
 use Rattle.promises.proofs.Given.{success_exactly}

@@ -11,9 +11,7 @@ use Rattle.axis.specs.declared.coordinate.Axis.{Axis}
 use Rattle.axis.specs.Coordinate.{pad_of, shift_axis, zoom_axis}
 use Rattle.axis.specs.Length.{output_length}
 use Rattle.request.specs.declared.Request.{Request}
-use Rattle.refusal.specs.declared.Verdict.{Verdict}
-use Rattle.refusal.specs.declared.Verdict.TheVariants.{Passed, Refused}
-use Rattle.refusal.specs.Refusals.{Check, first, number_of, number_by}
+use Rattle.refusal.specs.Refusals.{Check, first, number_of, number_in}
 use Rattle.refusal.proofs.Firsts.{all_say}
 use Rattle.coverage.specs.Coverage.{kept_at}
 use Rattle.voxels.specs.Voxel.{voxel_at}
@@ -25,6 +23,8 @@ use Rattle.promises.specs.Given.{holds, FirstToHold, among}
 use Rattle.promises.specs.OnPaper.{axis_call, by_hand}
 use Rattle.promises.proofs.Given.{distinct, some_number, exactly, success, one_of}
 use Rattle.promises.proofs.Succeeding.{passed}
+use Rattle.std.specs.Prelude.{Result, Ok, Err, ⊤}
+use Rattle.refusal.specs.declared.Refusal.{Refusal}
 
 -- ---- the refusals
 module _ (e : Entry) (n : ℕ) (factor : Float) (order : ℕ) (prefilter : Bool) (mode : BorderMode) (i : ℕ) (coordinate : List Float) (at : List ℕ) (weight : List Float) where
@@ -35,7 +35,7 @@ module _ (e : Entry) (n : ℕ) (factor : Float) (order : ℕ) (prefilter : Bool)
   pointed = point_call e n factor order prefilter mode i coordinate at weight
 
   abbrev point_number : ℕ
-  point_number = number_by pointed.answer
+  point_number = number_in pointed.answer
 
   -- the axis that is asked for
   abbrev axis_of : Axis
@@ -49,12 +49,12 @@ module _ (e : Entry) (n : ℕ) (factor : Float) (order : ℕ) (prefilter : Bool)
   point_apart : distinct point_tests ≡ true
   point_apart = elim e as (λ (k : Entry). distinct (point_checks k n factor order prefilter mode i (length coordinate) (length at) (length weight)) ≡ true) [ shifting ↦ refl | zooming ↦ refl ]
 
-  pub point_numbered : point_number ≡ number_by (first point_tests)
-  point_numbered = ap (λ (c : PointCall). number_by c.answer) by_tests ∙ by (first point_tests)
+  pub point_numbered : point_number ≡ number_in (first point_tests)
+  point_numbered = ap (λ (c : PointCall). number_in c.answer) by_tests ∙ by (first point_tests)
     where
-      by : (v : Verdict) → number_by (point_call_by v order mode axis_of i coordinate at weight).answer ≡ number_by v
-      by Passed = refl
-      by (Refused why) = refl
+      by : (v : Result ⊤ Refusal) → number_in (point_call_by v order mode axis_of i coordinate at weight).answer ≡ number_in v
+      by (Ok tt) = refl
+      by (Err why) = refl
 
   pub point_refusal_exactly : (m : ℕ) → 1 ≤ m → (point_number ≡ m) ↔ FirstToHold point_tests m
   point_refusal_exactly = exactly point_tests point_apart point_numbered
@@ -67,18 +67,18 @@ module _ (e : Entry) (n : ℕ) (factor : Float) (order : ℕ) (prefilter : Bool)
 
   -- a refusal writes nothing
   pub point_refusal_leaves : (point_number ≡ 0 → ⊥) → pointed ≡ point_call_of pointed.answer coordinate at weight
-  point_refusal_leaves = subst (λ (c : PointCall). (number_by c.answer ≡ 0 → ⊥) → c ≡ point_call_of c.answer coordinate at weight) (sym by_tests) (by (first point_tests))
+  point_refusal_leaves = subst (λ (c : PointCall). (number_in c.answer ≡ 0 → ⊥) → c ≡ point_call_of c.answer coordinate at weight) (sym by_tests) (by (first point_tests))
     where
-      by : (v : Verdict) → let c = point_call_by v order mode axis_of i coordinate at weight in (number_by c.answer ≡ 0 → ⊥) → c ≡ point_call_of c.answer coordinate at weight
-      by Passed h = absurd (h refl)
-      by (Refused why) h = refl
+      by : (v : Result ⊤ Refusal) → let c = point_call_by v order mode axis_of i coordinate at weight in (number_in c.answer ≡ 0 → ⊥) → c ≡ point_call_of c.answer coordinate at weight
+      by (Ok tt) h = absurd (h refl)
+      by (Err why) h = refl
 
   -- a success writes the record
-  writes : point_number ≡ 0 → point_call_by Passed order mode axis_of i coordinate at weight ≡ pointed
-  writes q = ap (λ (v : Verdict). point_call_by v order mode axis_of i coordinate at weight) (sym (passed (first point_tests) (sym point_numbered ∙ q))) ∙ sym by_tests
+  writes : point_number ≡ 0 → point_call_by (Ok tt) order mode axis_of i coordinate at weight ≡ pointed
+  writes q = ap (λ (v : Result ⊤ Refusal). point_call_by v order mode axis_of i coordinate at weight) (sym (passed (first point_tests) (sym point_numbered ∙ q))) ∙ sym by_tests
 
 pub one_point_outcome :
-    (e : Entry) (n : ℕ) (factor : Float) (order : ℕ) (prefilter : Bool) (mode : BorderMode) (i : ℕ) (coordinate : List Float) (at : List ℕ) (weight : List Float) {answer answer' : Verdict} {c c' w w' : List Float} {a a' : List ℕ} →
+    (e : Entry) (n : ℕ) (factor : Float) (order : ℕ) (prefilter : Bool) (mode : BorderMode) (i : ℕ) (coordinate : List Float) (at : List ℕ) (weight : List Float) {answer answer' : Result ⊤ Refusal} {c c' w w' : List Float} {a a' : List ℕ} →
     point_call_of answer c a w ≡ point_call e n factor order prefilter mode i coordinate at weight → point_call_of answer' c' a' w' ≡ point_call e n factor order prefilter mode i coordinate at weight →
     (answer ≡ answer') × (c ≡ c') × (a ≡ a') × (w ≡ w')
 one_point_outcome e n factor order prefilter mode i coordinate at weight p q =
@@ -97,24 +97,24 @@ module _ (r : Request) (i j k : ℕ) (cx : List Float) (nx : List ℕ) (wx cy : 
     abbrev z : PointCall
     z = axis_call e r 2 k cz nz wz
 
-  axis_writes : (e : Entry) (axis m : ℕ) (c : List Float) (n : List ℕ) (w : List Float) → number_by (axis_call e r axis m c n w).answer ≡ 0 → point_call_by Passed r.order r.mode (axis_of e (get_or r.dims axis 0) (get_or r.factors axis nan) r.order r.prefilter r.mode m c n w) m c n w ≡ axis_call e r axis m c n w
+  axis_writes : (e : Entry) (axis m : ℕ) (c : List Float) (n : List ℕ) (w : List Float) → number_in (axis_call e r axis m c n w).answer ≡ 0 → point_call_by (Ok tt) r.order r.mode (axis_of e (get_or r.dims axis 0) (get_or r.factors axis nan) r.order r.prefilter r.mode m c n w) m c n w ≡ axis_call e r axis m c n w
   axis_writes e axis m c n w = writes e (get_or r.dims axis 0) (get_or r.factors axis nan) r.order r.prefilter r.mode m c n w
 
   -- over any voxels or coefficients
-  pub on_paper : (e : Entry) (xs : List Float) → number_by (x e).answer ≡ 0 → number_by (y e).answer ≡ 0 → number_by (z e).answer ≡ 0 → let a = axes_of e r in voxel_at r.order r.mode a.x a.y a.z xs i j k ≡ by_hand r xs (x e) (y e) (z e)
+  pub on_paper : (e : Entry) (xs : List Float) → number_in (x e).answer ≡ 0 → number_in (y e).answer ≡ 0 → number_in (z e).answer ≡ 0 → let a = axes_of e r in voxel_at r.order r.mode a.x a.y a.z xs i j k ≡ by_hand r xs (x e) (y e) (z e)
   unfolding voxel_at kept_at
   on_paper shifting xs p q s = λ t. by_hand r xs (axis_writes shifting 0 i cx nx wx p t) (axis_writes shifting 1 j cy ny wy q t) (axis_writes shifting 2 k cz nz wz s t)
   on_paper zooming xs p q s = λ t. by_hand r xs (axis_writes zooming 0 i cx nx wx p t) (axis_writes zooming 1 j cy ny wy q t) (axis_writes zooming 2 k cz nz wz s t)
 
   -- so of the voxel that is asked for alone: by hand from the input, or from the coefficients lent in work, comes its value
-  pub voxel_on_paper : (e : Entry) (input work value : List Float) (code : List ℕ) → let v = voxel_call e r input work (i ∷ j ∷ k ∷ []) value code in number_by v.answer ≡ 0 → number_by (x e).answer ≡ 0 → number_by (y e).answer ≡ 0 → number_by (z e).answer ≡ 0 → v.value ≡ by_hand r (lent_source r input work) (x e) (y e) (z e) ∷ []
+  pub voxel_on_paper : (e : Entry) (input work value : List Float) (code : List ℕ) → let v = voxel_call e r input work (i ∷ j ∷ k ∷ []) value code in number_in v.answer ≡ 0 → number_in (x e).answer ≡ 0 → number_in (y e).answer ≡ 0 → number_in (z e).answer ≡ 0 → v.value ≡ by_hand r (lent_source r input work) (x e) (y e) (z e) ∷ []
   unfolding shift_voxel_call zoom_voxel_call voxel_of
   voxel_on_paper e input work value code done p q s = alone e done ∙ ap (λ (f : Float). f ∷ []) (on_paper e (lent_source r input work) p q s)
     where
-      by : (v : Verdict) (made : Voxel) → number_by (voxel_call_by v made value code).answer ≡ 0 → (voxel_call_by v made value code).value ≡ made.value ∷ []
-      by Passed made h = refl
-      by (Refused why) made h = absurd (some_number why h)
+      by : (v : Result ⊤ Refusal) (made : Voxel) → number_in (voxel_call_by v made value code).answer ≡ 0 → (voxel_call_by v made value code).value ≡ made.value ∷ []
+      by (Ok tt) made h = refl
+      by (Err why) made h = absurd (some_number why h)
 
-      alone : (e : Entry) → let a = axes_of e r in number_by (voxel_call e r input work (i ∷ j ∷ k ∷ []) value code).answer ≡ 0 → (voxel_call e r input work (i ∷ j ∷ k ∷ []) value code).value ≡ voxel_at r.order r.mode a.x a.y a.z (lent_source r input work) i j k ∷ []
+      alone : (e : Entry) → let a = axes_of e r in number_in (voxel_call e r input work (i ∷ j ∷ k ∷ []) value code).answer ≡ 0 → (voxel_call e r input work (i ∷ j ∷ k ∷ []) value code).value ≡ voxel_at r.order r.mode a.x a.y a.z (lent_source r input work) i j k ∷ []
       alone shifting h = by (first (voxel_checks shifting r input (length value) (length code) (length work) (i ∷ j ∷ k ∷ []))) _ h
       alone zooming h = by (first (voxel_checks zooming r input (length value) (length code) (length work) (i ∷ j ∷ k ∷ []))) _ h

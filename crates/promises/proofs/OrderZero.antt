@@ -17,11 +17,11 @@ use Rattle.axis.specs.Folded.{folded_at}
 use Rattle.axis.proofs.Coordinates.{low_pad}
 use Rattle.axis.proofs.Points.{order_most}
 use Rattle.axis.proofs.Folding.{Padded, order_0_unfolded}
+use Rattle.refusal.specs.Refusals.{number_in}
 use Rattle.coverage.specs.Coverage.{kept_at, own_code}
 use Rattle.axis.specs.Bookkeeping.{Reaches}
 use Rattle.request.specs.declared.Request.{Request}
 use Rattle.request.specs.Conditions.{beside_any}
-use Rattle.resample.specs.Call.{number_in}
 use Rattle.promises.specs.Entries.{Entry, shifting, zooming, call, axes_of, output_dims}
 use Rattle.promises.specs.Place.{Inside, code}
 use Rattle.promises.proofs.Given.{success_exactly}

@@ -22,13 +22,14 @@ use Rattle.axis.proofs.Points.{long_order}
 use Rattle.axis.proofs.Singles.{Lone, lone_unfolded}
 use Rattle.axis.proofs.Folding.{Padded, order_0_unfolded, order_1_unfolded}
 use Rattle.axis.proofs.Settling.{replicate_upto}
+use Rattle.refusal.specs.Refusals.{number_in}
 use Rattle.coverage.specs.declared.counts.Counts.{Counts}
 use Rattle.coverage.specs.Coverage.{code_by, own_code, kept_at}
 use Rattle.request.specs.declared.Request.{Request}
 use Rattle.request.specs.Sizes.{padding}
 use Rattle.request.specs.Bookkeeping.{Lengths}
 use Rattle.request.proofs.Requests.{good_lengths}
-use Rattle.resample.specs.Call.{number_in, counts_in}
+use Rattle.resample.specs.Call.{counts_in}
 use Rattle.refusal.proofs.Admitting.{good_shifts}
 use Rattle.promises.specs.Entries.{Entry, shifting, zooming, call, axes_of, axis_at, output_dims}
 use Rattle.promises.specs.Place.{Inside, code}

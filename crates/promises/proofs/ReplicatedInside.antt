@@ -9,12 +9,13 @@ use Rattle.border.specs.declared.BorderMode.TheVariants.{Nearest, Replicate}
 use Rattle.axis.specs.declared.coordinate.Axis.{Axis}
 use Rattle.axis.specs.Coordinate.{settled, kept}
 use Rattle.axis.proofs.Settling.{replicate_inside, nearest_point, nearest_folded}
+use Rattle.refusal.specs.Refusals.{number_in}
 use Rattle.coverage.specs.Coverage.{code_by, own_code, kept_at}
 use Rattle.voxels.specs.Voxel.{tap_of, computed, voxel_at}
 use Rattle.prefilter.specs.Volume.{filter_axis, filter_volume}
 use Rattle.request.specs.declared.Axes.{Axes}
 use Rattle.request.specs.declared.Request.{Request}
-use Rattle.resample.specs.Call.{number_in, source_of, coefficients}
+use Rattle.resample.specs.Call.{source_of, coefficients}
 use Rattle.promises.specs.Entries.{Entry, shifting, zooming, call, axes_of, output_dims}
 use Rattle.promises.specs.Place.{Inside, voxel, code}
 use Rattle.promises.specs.Replicates.{in_mode, InScan, AllInScan}

@@ -26,12 +26,13 @@ use Rattle.axis.proofs.Coordinates.{low_pad}
 use Rattle.axis.proofs.Folding.{Padded}
 use Rattle.axis.proofs.Settling.{settled_lands}
 use Rattle.axis.proofs.Singles.{Lone}
+use Rattle.refusal.specs.Refusals.{number_in}
 use Rattle.coverage.specs.Coverage.{drop_value}
 use Rattle.voxels.specs.Voxel.{tap_of, computed, voxel_at}
 use Rattle.request.specs.declared.Request.{Request}
 use Rattle.request.specs.Sizes.{padding}
 use Rattle.request.specs.Conditions.{wild_fill, some_wild}
-use Rattle.resample.specs.Call.{number_in, shift_call}
+use Rattle.resample.specs.Call.{shift_call}
 use Rattle.promises.specs.Entries.{Entry, shifting, zooming, call, axes_of, output_dims}
 use Rattle.promises.specs.Place.{Inside, voxel}
 use Rattle.promises.specs.Marks.{pad_on}

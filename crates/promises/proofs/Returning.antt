@@ -16,8 +16,8 @@ use Rattle.request.specs.declared.Request.{Request}
 use Rattle.request.specs.Sizes.{needed}
 use Rattle.request.specs.Conditions.{bad_lengths, too_large, wild, wild_fill, some_wild}
 use Rattle.refusal.specs.declared.Asked.TheVariants.{Volume}
-use Rattle.refusal.specs.Refusals.{shift_checks}
-use Rattle.resample.specs.Call.{Call, number_in, shift_call}
+use Rattle.refusal.specs.Refusals.{shift_checks, number_in}
+use Rattle.resample.specs.Call.{Call, shift_call}
 use Rattle.promises.specs.Given.{NoneBut}
 use Rattle.promises.specs.Place.{voxel}
 use Rattle.promises.specs.Moves.{F64s, Whole, Outside, Moved, Returned}

@@ -28,16 +28,16 @@ use Rattle.request.specs.declared.Request.{Request}
 use Rattle.request.specs.Sizes.{padding, zoom_dims}
 use Rattle.request.specs.Bookkeeping.{Lengths}
 use Rattle.request.specs.Conditions.{moves_slice, moves_slices, zooms_slice, zooms_slices}
-use Rattle.refusal.specs.declared.Verdict.{Verdict}
-use Rattle.refusal.specs.declared.Verdict.TheVariants.{Passed, Refused}
-use Rattle.refusal.specs.Refusals.{first, number_by}
-use Rattle.resample.specs.Call.{FilterCall, number_in, filter_call_by, spline_filter_call, spline_filter1d_call}
+use Rattle.refusal.specs.Refusals.{first, number_in}
+use Rattle.resample.specs.Call.{FilterCall, filter_call_by, spline_filter_call, spline_filter1d_call}
 use Rattle.promises.specs.Entries.{Entry, shifting, zooming, Filter, whole, along, call, checks, axes_of, axis_at, output_dims, filter_call, filter_checks}
 use Rattle.promises.specs.Given.{holds, earlier}
 use Rattle.promises.specs.Place.{Inside}
 use Rattle.promises.specs.Slices.{Slice, SomeChanged, OneVoxel}
 use Rattle.promises.proofs.Given.{both, refusal_exactly, success_exactly, some_number, filter_numbered}
 use Rattle.promises.proofs.Succeeding.{succeeds}
+use Rattle.std.specs.Prelude.{Result, Ok, Err, ⊤}
+use Rattle.refusal.specs.declared.Refusal.{Refusal}
 
 module _ (r : Request) where
   pub outs : (c : ℕ) → c < 3 → get_or (zoom_dims r) c 0 ≡ output_length (get_or r.dims c 0) (get_or r.factors c nan)
@@ -141,15 +141,15 @@ each_axis zooming r input output coverage work done i j k h =
 
 -- ---- the filters
 module _ (r : Request) (input output : List Float) where
-  made : (f : Filter) → number_by (filter_call f r input output).answer ≡ 0 → (filtered : List Float) → filter_call f r input output ≡ filter_call_by (first (filter_checks f r input (length output))) filtered output → (filter_call f r input output).output ≡ filtered
+  made : (f : Filter) → number_in (filter_call f r input output).answer ≡ 0 → (filtered : List Float) → filter_call f r input output ≡ filter_call_by (first (filter_checks f r input (length output))) filtered output → (filter_call f r input output).output ≡ filtered
   made f done filtered e = ap (λ (c : FilterCall). c.output) e ∙ go (first (filter_checks f r input (length output))) (sym (filter_numbered f r input output) ∙ done)
     where
-      go : (v : Verdict) → number_by v ≡ 0 → (filter_call_by v filtered output).output ≡ filtered
-      go Passed q = refl
-      go (Refused why) q = absurd (some_number why q)
+      go : (v : Result ⊤ Refusal) → number_in v ≡ 0 → (filter_call_by v filtered output).output ≡ filtered
+      go (Ok tt) q = refl
+      go (Err why) q = absurd (some_number why q)
 
   -- `spline_filter1d` along a single slice
-  pub slice_copied : (c : ℕ) → Slice r c → number_by (filter_call (along c) r input output).answer ≡ 0 → (filter_call (along c) r input output).output ≡ input
+  pub slice_copied : (c : ℕ) → Slice r c → number_in (filter_call (along c) r input output).answer ≡ 0 → (filter_call (along c) r input output).output ≡ input
   unfolding spline_filter1d_call
   slice_copied c (l, one) done = made (along c) done _ refl ∙ go (ltb 1 r.order)
     where
@@ -158,7 +158,7 @@ module _ (r : Request) (input output : List Float) where
       go false = refl
 
   -- `spline_filter` of one voxel
-  pub voxel_copied : Slice r 0 → Slice r 1 → Slice r 2 → number_by (filter_call whole r input output).answer ≡ 0 → (filter_call whole r input output).output ≡ input
+  pub voxel_copied : Slice r 0 → Slice r 1 → Slice r 2 → number_in (filter_call whole r input output).answer ≡ 0 → (filter_call whole r input output).output ≡ input
   unfolding spline_filter_call filter_volume
   voxel_copied x y z done =
       let along : (c : ℕ) → Slice r c → (xs : List Float) → filter_axis r.mode r.order r.dims c xs ≡ xs = λ c s xs. along-single r.mode r.order r.dims c xs (one_single _ s.1) in

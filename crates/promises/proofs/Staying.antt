@@ -15,7 +15,8 @@ use borrow.Author.Tests.{leb-true, leb-false, ltb-true, ltb-false, lt-ltb}
 use Rattle.exact.proofs.Value.{bool_ext}
 use Rattle.exact.proofs.Is.{diff_pos, diff_neg}
 use Rattle.request.specs.declared.Request.{Request}
-use Rattle.resample.specs.Call.{Call, number_in, counts_in, shift_call}
+use Rattle.refusal.specs.Refusals.{number_in}
+use Rattle.resample.specs.Call.{Call, counts_in, shift_call}
 use Rattle.promises.specs.Entries.{shifting}
 use Rattle.promises.specs.Marks.{bearing}
 use Rattle.promises.specs.Moves.{Outside, Moved}

@@ -11,8 +11,8 @@ use Rattle.exact.specs.Same.{Same}
 use Rattle.border.specs.declared.BorderMode.TheVariants.{Constant}
 use Rattle.request.specs.declared.Request.{Request}
 use Rattle.refusal.specs.declared.Asked.TheVariants.{Volume}
-use Rattle.refusal.specs.Refusals.{shift_checks}
-use Rattle.resample.specs.Call.{number_in, shift_call}
+use Rattle.refusal.specs.Refusals.{shift_checks, number_in}
+use Rattle.resample.specs.Call.{shift_call}
 use Rattle.promises.specs.Given.{NoneBut}
 use Rattle.promises.specs.Place.{Inside, voxel, code}
 use Rattle.promises.specs.Moves.{F64s}

@@ -26,10 +26,11 @@ use Rattle.axis.proofs.Coordinates.{low_pad, nearest_stands}
 use Rattle.axis.proofs.Folding.{Padded}
 use Rattle.axis.proofs.Settling.{settled_lands}
 use Rattle.axis.proofs.Singles.{lone_unfolded}
+use Rattle.refusal.specs.Refusals.{number_in}
 use Rattle.coverage.specs.Coverage.{kept_at, own_code}
 use Rattle.request.specs.declared.Request.{Request}
 use Rattle.request.specs.Sizes.{padding}
-use Rattle.resample.specs.Call.{number_in, shift_call}
+use Rattle.resample.specs.Call.{shift_call}
 use Rattle.promises.specs.Entries.{shifting}
 use Rattle.promises.specs.Place.{Inside, code}
 use Rattle.promises.specs.Moves.{Whole}

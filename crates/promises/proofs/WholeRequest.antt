@@ -27,9 +27,9 @@ use Rattle.request.specs.Sizes.{padding, source_dims}
 use Rattle.request.specs.Bookkeeping.{Lengths}
 use Rattle.request.specs.Conditions.{wild, wild_fill, some_wild, beside_any}
 use Rattle.refusal.specs.declared.Asked.TheVariants.{Volume}
-use Rattle.refusal.specs.Refusals.{shift_checks}
+use Rattle.refusal.specs.Refusals.{shift_checks, number_in}
 use Rattle.request.proofs.Requests.{not_both, good_lengths}
-use Rattle.resample.specs.Call.{number_in, source_of, coefficients, shift_call}
+use Rattle.resample.specs.Call.{source_of, coefficients, shift_call}
 use Rattle.promises.specs.Entries.{shifting}
 use Rattle.promises.specs.Given.{NoneBut}
 use Rattle.promises.specs.Moves.{F64s, Whole, Outside}

@@ -17,7 +17,8 @@ use Rattle.lanes.specs.Along.{filter_along}
 use Rattle.prefilter.specs.Volume.{length_of, stride_of, filter_axis, filter_volume, count_of}
 use Rattle.request.specs.declared.Request.{Request}
 use Rattle.request.specs.Sizes.{filters, edges, source_dims, needed}
-use Rattle.resample.specs.Call.{Call, source_of, coefficients, work_after, number_in}
+use Rattle.refusal.specs.Refusals.{number_in}
+use Rattle.resample.specs.Call.{Call, source_of, coefficients, work_after}
 use Rattle.request.proofs.Requests.{plain_count, needed_all}
 use Rattle.resample.proofs.Preparing.{source_plain, padded_count, source-padded, filtered, work_begins, work_stays}
 use Rattle.promises.specs.Entries.{Entry, call}

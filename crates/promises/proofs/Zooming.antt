@@ -8,12 +8,13 @@ use lib.Dec.{lit<}
 use lib.ListN.{length}
 use lib.Ieee.{Float}
 use Rattle.limits.proofs.Singles.{two_long}
+use Rattle.refusal.specs.Refusals.{number_in}
 use Rattle.coverage.specs.declared.counts.Counts.{Counts}
 use Rattle.request.specs.declared.Request.{Request}
 use Rattle.request.specs.Sizes.{zoom_dims}
 use Rattle.request.specs.Bookkeeping.{Lengths}
 use Rattle.request.proofs.Requests.{padding_most, good_lengths, good_outputs}
-use Rattle.resample.specs.Call.{number_in, counts_in, zoom_call}
+use Rattle.resample.specs.Call.{counts_in, zoom_call}
 use Rattle.promises.specs.Entries.{zooming, axis_at, output_dims}
 use Rattle.promises.specs.Place.{Inside, code}
 use Rattle.promises.proofs.Keeping.{AllSpan, Clear, kept_never_beside, kept_no_drop, kept_counted}

@@ -3,12 +3,13 @@ use Rattle.std.specs.Prelude.{ℕ, ◌^◌, ◌<◌, ◌≡◌, false, List, map
 use Rattle.std.specs.Float.{binary64}
 use Rattle.std.specs.Float.Ieee.{of_bits, nan_bits}
 use Rattle.request.specs.declared.Request.{Request}
-use Rattle.refusal.specs.declared.Verdict.TheVariants.{Passed}
 use Rattle.words.specs.Words.{Below}
 use Rattle.npy.specs.File.{dims_of}
 use Rattle.npy.specs.Call.{npy_call_of, read_call, write_call}
-use Rattle.resample.specs.Call.{Call, number_in}
+use Rattle.refusal.specs.Refusals.{number_in}
+use Rattle.resample.specs.Call.{Call}
 use Rattle.promises.specs.Entries.{Entry, call, output_dims}
+use Rattle.std.specs.Prelude.{Ok}
 
 -- reader and writer take voxels as words, their bits; the entries take the same memory as f64
 abbrev pub volume_of : List ℕ → List Float
@@ -40,7 +41,7 @@ resampled e r file lent = call_on e r (read_call file lent.volume).buffer lent
 
 -- reader and entry succeed; `out` is the bits of the entry's output
 pub record Resamples (e : Entry) (r : Request) (file : List ℕ) (lent : Lent) (out : List ℕ) : Type 0 where
-  pub read : (read_call file lent.volume).answer ≡ Passed
+  pub read : (read_call file lent.volume).answer ≡ Ok tt
   pub asked : r.dims ≡ dims_of file
   pub done : number_in (resampled e r file lent).answer ≡ 0
   pub bits : BitsOf out (resampled e r file lent).output
@@ -50,5 +51,5 @@ pub record Goes (e : Entry) (r : Request) (from to codes : List ℕ) : Type 0 wh
   pub lent : Lent
   pub out : List ℕ
   pub resamples : Resamples e r from lent out
-  pub wrote : write_call (output_dims e r) out lent.bytes ≡ npy_call_of Passed to
+  pub wrote : write_call (output_dims e r) out lent.bytes ≡ npy_call_of (Ok tt) to
   pub marks : (resampled e r from lent).coverage ≡ codes

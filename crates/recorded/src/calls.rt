@@ -11,9 +11,9 @@ use answer_file::volumes::put_lane;
 use answer_file::words::{after, float_at, in_pool, whole_at};
 use coverage::counts::Counts;
 use numbers::requests::request_of;
-use refusal::Verdict;
+use refusal::Refusal;
 use request::Request;
-use resample::{Answer, shift, spline_filter, spline_filter1d, zoom};
+use resample::{shift, spline_filter, spline_filter1d, zoom};
 use std::io;
 
 // What the buffers hold before a call: a number that no answer has, and no code.
@@ -96,10 +96,10 @@ pub fn request_at(words: &[u64], at: usize) -> Request {
 }
 
 // What a filter answers: it has no counts.
-fn answer_of(verdict: Verdict) -> Answer {
+fn answer_of(verdict: Result<(), Refusal>) -> Result<Counts, Refusal> {
     match verdict {
-        Verdict::Passed => Answer::Done(Counts::none()),
-        Verdict::Refused(why) => Answer::Refused(why),
+        Ok(()) => Ok(Counts::none()),
+        Err(why) => Err(why),
     }
 }
 
@@ -110,7 +110,7 @@ fn ask(
     output: &mut [f64],
     coverage: &mut [u8],
     work: &mut [f64],
-) -> Answer {
+) -> Result<Counts, Refusal> {
     let r = request_at(words, at);
     match whole_at(words, at, 0) {
         0 => shift(r, input, output, coverage, work),
@@ -127,7 +127,7 @@ pub fn call(
     output: &mut [f64],
     coverage: &mut [u8],
     work: &mut [f64],
-) -> Answer
+) -> Result<Counts, Refusal>
     requires { (output_room ≤ length output.old) × ((output_room ≤ length coverage.old) × (work_room ≤ length work.old)) }
 {
     let n = input_length(words, at);

@@ -17,7 +17,6 @@ use Rattle.axis.proofs.Reaches.{pad_within, shift_reaches, zoom_reaches}
 use Rattle.prefilter.specs.Volume.{count_of}
 use Rattle.request.specs.declared.Request.{Request}
 use Rattle.refusal.specs.declared.Asked.{Asked}
-use Rattle.refusal.specs.declared.Verdict.TheVariants.{Passed}
 use Rattle.request.specs.Sizes.{needed, padding, zoom_dims, shift_axes, zoom_axes}
 use Rattle.request.specs.Bookkeeping.{Lengths, Zoomed}
 use Rattle.request.specs.Conditions.{wrong, bad_shift, bad_factors, bad_index, bad_indices}
@@ -26,6 +25,7 @@ use Rattle.refusal.specs.Bookkeeping.{Passes}
 use Rattle.refusal.proofs.Firsts.{all_clear}
 use Rattle.lists.proofs.Somes.{none-at, or_false}
 use Rattle.request.proofs.Requests.{not_both, padding_most, good_lengths, good_outputs, good_zooms}
+use Rattle.std.specs.Prelude.{Ok}
 
 -- ---- a shift that refusal 4 lets pass
 at_most : (n d : ℕ) → n * 1 < 1 * 2 ^ 20 * d → n ≤ 2 ^ 20 * d
@@ -78,7 +78,7 @@ module _ (asked : Asked) (r : Request) (input : List Float) (output coverage wor
       let o = or_false (wrong (length input) (count_of r.dims)) (wrong output places) c.0 in
       record { all = right _ _ o.0; values = right _ _ o.1; codes = right _ _ c.1; room = ltb-false work (needed r) w.1 }
 
-  pub shift_passes : first (shift_checks asked r input output coverage work) ≡ Passed → Passes r (shift_axes r) (places_of asked (count_of r.dims)) (length input) output coverage work
+  pub shift_passes : first (shift_checks asked r input output coverage work) ≡ Ok tt → Passes r (shift_axes r) (places_of asked (count_of r.dims)) (length input) output coverage work
   shift_passes e =
       let h = all_clear (shift_checks asked r input output coverage work) e in
       let b = lent (places_of asked (count_of r.dims)) h.1.1.1.1.1.0 in
@@ -94,7 +94,7 @@ module _ (asked : Asked) (r : Request) (input : List Float) (output coverage wor
         room = b.room;
       }
 
-  pub zoom_passes : first (zoom_checks asked r input output coverage work) ≡ Passed → Passes r (zoom_axes r) (places_of asked (count_of (zoom_dims r))) (length input) output coverage work
+  pub zoom_passes : first (zoom_checks asked r input output coverage work) ≡ Ok tt → Passes r (zoom_axes r) (places_of asked (count_of (zoom_dims r))) (length input) output coverage work
   zoom_passes e =
       let h = all_clear (zoom_checks asked r input output coverage work) e in
       let b = lent (places_of asked (count_of (zoom_dims r))) h.1.1.1.1.1.1.0 in
@@ -111,10 +111,10 @@ module _ (asked : Asked) (r : Request) (input : List Float) (output coverage wor
       }
 
   -- the output lengths of zoom are whole numbers, and lengths
-  pub zoom_ready : first (zoom_checks asked r input output coverage work) ≡ Passed → Zoomed r × Lengths (zoom_dims r)
+  pub zoom_ready : first (zoom_checks asked r input output coverage work) ≡ Ok tt → Zoomed r × Lengths (zoom_dims r)
   zoom_ready e = let h = all_clear (zoom_checks asked r input output coverage work) e in (good_zooms r h.1.0 h.1.1.0, λ i l. (good_outputs r.dims (zoom_dims r) h.1.1.1.0 h.1.1.1.1.0 i l).0)
 
 -- ---- an index that refusal 11 lets pass
-pub good_indices : (out at : List ℕ) → first (index_checks out at) ≡ Passed → (i : ℕ) → i < 3 → get_or at i 0 < get_or out i 0
+pub good_indices : (out at : List ℕ) → first (index_checks out at) ≡ Ok tt → (i : ℕ) → i < 3 → get_or at i 0 < get_or out i 0
 unfolding bad_indices
 good_indices out at e i l = leb-false (get_or out i 0) (get_or at i 0) (none-at (λ (i : ℕ). bad_index (get_or out i 0) (get_or at i 0)) 3 (all_clear (index_checks out at) e).0 i l)

@@ -14,10 +14,10 @@ use Rattle.axis.proofs.Coordinates.{pad_most}
 use Rattle.lists.proofs.Somes.{or_false}
 use Rattle.request.specs.Conditions.{wrong}
 use Rattle.request.proofs.Requests.{good_length, good_output, good_zoom}
-use Rattle.refusal.specs.declared.Verdict.TheVariants.{Passed}
 use Rattle.refusal.specs.Refusals.{first, point_checks, shift_point_checks, zoom_point_checks}
 use Rattle.refusal.proofs.Firsts.{Clear, all_clear}
 use Rattle.refusal.proofs.Admitting.{good_shift, shift_axis_reaches, zoom_axis_reaches, right}
+use Rattle.std.specs.Prelude.{Ok}
 
 -- of an axis of n voxels
 pub record Noted (n order : ℕ) (a : Axis) (i coordinate at weight : ℕ) : Type 0 where
@@ -38,13 +38,13 @@ module _ (n : ℕ) (factor : Float) (order : ℕ) (prefilter : Bool) (mode : Bor
   abbrev pad : ℕ
   pad = pad_of mode prefilter order n
 
-  pub shift_point_passes : first (shift_point_checks n factor order prefilter mode i coordinate at weight) ≡ Passed → Noted n order (shift_axis n factor (pad_of mode prefilter order n)) i coordinate at weight
+  pub shift_point_passes : first (shift_point_checks n factor order prefilter mode i coordinate at weight) ≡ Ok tt → Noted n order (shift_axis n factor (pad_of mode prefilter order n)) i coordinate at weight
   shift_point_passes e =
       let h = all_clear (shift_point_checks n factor order prefilter mode i coordinate at weight) e in
       let l = good_length n h.1.0 in
       noted (shift_axis n factor pad) l (shift_axis_reaches order n pad (ltb-false 5 order h.0) l.0 l.1 (pad_most mode prefilter order n refl) factor (good_shift factor h.1.1.0)) h.1.1.1.1
 
-  pub zoom_point_passes : first (zoom_point_checks n factor order prefilter mode i coordinate at weight) ≡ Passed → Noted n order (zoom_axis n (output_length n factor) (pad_of mode prefilter order n)) i coordinate at weight
+  pub zoom_point_passes : first (zoom_point_checks n factor order prefilter mode i coordinate at weight) ≡ Ok tt → Noted n order (zoom_axis n (output_length n factor) (pad_of mode prefilter order n)) i coordinate at weight
   zoom_point_passes e =
       let h = all_clear (zoom_point_checks n factor order prefilter mode i coordinate at weight) e in
       let l = good_length n h.1.0 in
@@ -52,7 +52,7 @@ module _ (n : ℕ) (factor : Float) (order : ℕ) (prefilter : Bool) (mode : Bor
       noted (zoom_axis n (output_length n factor) pad) l (zoom_axis_reaches order n pad (ltb-false 5 order h.0) l.0 l.1 (pad_most mode prefilter order n refl) (output_length n factor) o.1 o.0.1) h.1.1.1.1.1
 
   -- zoom's output length is a whole number, and a length
-  pub zoom_point_ready : first (zoom_point_checks n factor order prefilter mode i coordinate at weight) ≡ Passed → Zooms n factor × (1 ≤ output_length n factor)
+  pub zoom_point_ready : first (zoom_point_checks n factor order prefilter mode i coordinate at weight) ≡ Ok tt → Zooms n factor × (1 ≤ output_length n factor)
   zoom_point_ready e =
       let h = all_clear (zoom_point_checks n factor order prefilter mode i coordinate at weight) e in
       (good_zoom n factor h.1.0 h.1.1.0, (good_output n (output_length n factor) h.1.1.1.0 h.1.1.1.1.0).0.0)

@@ -1,5 +1,5 @@
 -- "Checked in this order; the first that applies is given, and a refusal is given only then."
-use Rattle.std.specs.Prelude.{ℕ, Bool, ◌&&◌, ◌||◌, cond, List, [], ◌∷◌, ◌++◌, eqb, length, Float}
+use Rattle.std.specs.Prelude.{ℕ, Bool, ◌&&◌, ◌||◌, cond, List, [], ◌∷◌, ◌++◌, eqb, length, Float, Result, Ok, Err, ⊤}
 use Rattle.border.specs.declared.BorderMode.{BorderMode}
 use Rattle.axis.specs.declared.coordinate.Axis.{Axis}
 use Rattle.axis.specs.Coordinate.{pad_of, shift_axis, zoom_axis}
@@ -14,8 +14,6 @@ use Rattle.refusal.specs.declared.Asked.{Asked}
 use Rattle.refusal.specs.declared.Asked.TheVariants.{Volume, Voxel}
 use Rattle.refusal.specs.declared.Refusal.{Refusal}
 use Rattle.refusal.specs.declared.Refusal.TheVariants.{NotNpy, Order, AxisNumber, Length, Factor, Slice, OutputLength, Count, Buffer, Value, Beside, Index}
-use Rattle.refusal.specs.declared.Verdict.{Verdict}
-use Rattle.refusal.specs.declared.Verdict.TheVariants.{Passed, Refused}
 
 -- document 01's numbers, and document 02's
 abbrev pub number_of : Refusal → ℕ
@@ -40,14 +38,14 @@ pub record Check : Type 0 where
 abbrev pub when : Refusal → Bool → Check
 when says applies = record { says = says; applies = applies }
 
-abbrev pub first : List Check → Verdict
-first [] = Passed
-first (c ∷ cs) = cond c.applies (Refused c.says) (first cs)
+abbrev pub first : List Check → Result ⊤ Refusal
+first [] = Ok tt
+first (c ∷ cs) = cond c.applies (Err c.says) (first cs)
 
--- the number of what was found, 0 where no check applies
-abbrev pub number_by : Verdict → ℕ
-number_by Passed = 0
-number_by (Refused why) = number_of why
+-- the number of an answer, 0 where nothing is refused
+abbrev pub number_in : {T : Type 0} → Result T Refusal → ℕ
+number_in (Ok value) = 0
+number_in (Err why) = number_of why
 
 -- ---- what each entry checks. `output`, `coverage` and `work` are the lengths of these buffers.
 abbrev pub value_check : BorderMode → List Float → Check

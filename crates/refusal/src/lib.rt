@@ -2,27 +2,27 @@
 #![tactic(auto)]
 
 ghost use Rattle.std.specs.Prelude.{◌≡◌};
-ghost use Rattle.refusal.specs.Refusals.{number_of, number_by};
+ghost use Rattle.refusal.specs.Refusals.{number_of, number_in};
 
 pub mod points;
 pub mod verdicts;
 
-// In the order in which they are looked for: document 01's nine, 1 to 9, and among them those of document
-// 02, 10 before all, 12 after 4, 11 after all.
+// In the order in which they are looked for, with their numbers: document 01's nine, 1 to 9, and among
+// them those of document 02, 10 before all, 12 after 4, 11 after all.
 #[derive(Clone, Copy)]
 pub enum Refusal {
-    NotNpy,
-    Order,
-    AxisNumber,
-    Length,
-    Factor,
-    Slice,
-    OutputLength,
-    Count,
-    Buffer,
-    Value,
-    Beside,
-    Index,
+    NotNpy = 10,
+    Order = 1,
+    AxisNumber = 2,
+    Length = 3,
+    Factor = 4,
+    Slice = 12,
+    OutputLength = 5,
+    Count = 6,
+    Buffer = 7,
+    Value = 8,
+    Beside = 9,
+    Index = 11,
 }
 
 // What a caller of shift or zoom wants: every voxel of the output, or one.
@@ -32,37 +32,18 @@ pub enum Asked {
     Voxel,
 }
 
-#[derive(Clone, Copy)]
-pub enum Verdict {
-    Passed,
-    Refused(Refusal),
-}
-
 pub fn number_of(why: Refusal) -> u32
     ensures { result ≡ number_of why }
 {
-    match why {
-        Refusal::NotNpy => 10,
-        Refusal::Order => 1,
-        Refusal::AxisNumber => 2,
-        Refusal::Length => 3,
-        Refusal::Factor => 4,
-        Refusal::Slice => 12,
-        Refusal::OutputLength => 5,
-        Refusal::Count => 6,
-        Refusal::Buffer => 7,
-        Refusal::Value => 8,
-        Refusal::Beside => 9,
-        Refusal::Index => 11,
-    }
+    why as u32
 }
 
-// 0 where nothing is refused.
-pub fn number_by(v: Verdict) -> u32
-    ensures { result ≡ number_by v }
+// The number of an answer: 0 where nothing is refused.
+pub fn number_in<T: Copy>(answer: Result<T, Refusal>) -> u32
+    ensures { result ≡ number_in answer }
 {
-    match v {
-        Verdict::Passed => 0,
-        Verdict::Refused(why) => number_of(why),
+    match answer {
+        Ok(_) => 0,
+        Err(why) => number_of(why),
     }
 }

@@ -4,7 +4,7 @@ ghost use Rattle.axis.specs.Point.{some_beside};
 ghost use Rattle.request.specs.Conditions.{wrong};
 ghost use Rattle.refusal.specs.Refusals.{first, point_checks, shift_point_checks, zoom_point_checks};
 
-use crate::{Refusal, Verdict};
+use crate::Refusal;
 use axis::coordinate::{Axis, output_length, pad_of, shift_axis, zoom_axis};
 use axis::point::some_beside;
 use border::BorderMode;
@@ -43,19 +43,19 @@ fn point_verdict(
     coordinate: usize,
     at: usize,
     weight: usize,
-) -> Verdict
+) -> Result<(), Refusal>
     ensures { result ≡ first (point_checks order mode a i coordinate at weight) }
 {
     if wrong_places(coordinate, at, weight) {
-        return Verdict::Refused(Refusal::Buffer);
+        return Err(Refusal::Buffer);
     }
     if beside(order, mode, a) {
-        return Verdict::Refused(Refusal::Beside);
+        return Err(Refusal::Beside);
     }
     if bad_index(a.out, i) {
-        return Verdict::Refused(Refusal::Index);
+        return Err(Refusal::Index);
     }
-    Verdict::Passed
+    Ok(())
 }
 
 pub fn shift_point_verdict(
@@ -68,20 +68,20 @@ pub fn shift_point_verdict(
     coordinate: usize,
     at: usize,
     weight: usize,
-) -> Verdict
+) -> Result<(), Refusal>
     ensures { result ≡ first (shift_point_checks length shift order prefilter mode i coordinate at weight) }
 {
     if order > 5 {
-        return Verdict::Refused(Refusal::Order);
+        return Err(Refusal::Order);
     }
     if bad_length(length) {
-        return Verdict::Refused(Refusal::Length);
+        return Err(Refusal::Length);
     }
     if bad_shift(shift) {
-        return Verdict::Refused(Refusal::Factor);
+        return Err(Refusal::Factor);
     }
     if moves_slice(length, shift) {
-        return Verdict::Refused(Refusal::Slice);
+        return Err(Refusal::Slice);
     }
     let a = shift_axis(length, shift, pad_of(mode, prefilter, order, length));
     point_verdict(order, mode, a, i, coordinate, at, weight)
@@ -97,24 +97,24 @@ pub fn zoom_point_verdict(
     coordinate: usize,
     at: usize,
     weight: usize,
-) -> Verdict
+) -> Result<(), Refusal>
     ensures { result ≡ first (zoom_point_checks length factor order prefilter mode i coordinate at weight) }
 {
     if order > 5 {
-        return Verdict::Refused(Refusal::Order);
+        return Err(Refusal::Order);
     }
     if bad_length(length) {
-        return Verdict::Refused(Refusal::Length);
+        return Err(Refusal::Length);
     }
     if bad_zoom(factor) {
-        return Verdict::Refused(Refusal::Factor);
+        return Err(Refusal::Factor);
     }
     let out = output_length(length, factor);
     if zooms_slice(length, out) {
-        return Verdict::Refused(Refusal::Slice);
+        return Err(Refusal::Slice);
     }
     if bad_output(length, out) {
-        return Verdict::Refused(Refusal::OutputLength);
+        return Err(Refusal::OutputLength);
     }
     let a = zoom_axis(length, out, pad_of(mode, prefilter, order, length));
     point_verdict(order, mode, a, i, coordinate, at, weight)

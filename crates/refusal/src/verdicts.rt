@@ -4,7 +4,7 @@ ghost use Rattle.request.specs.Bookkeeping.{Lengths};
 ghost use Rattle.request.specs.Conditions.{too_large, wrong, wild_fill, some_wild, beside_any};
 ghost use Rattle.refusal.specs.Refusals.{first, places_of, resample_checks, shift_checks, zoom_checks, index_checks, shift_voxel_checks, zoom_voxel_checks, filter_checks, spline_filter_checks, spline_filter1d_checks};
 
-use crate::{Asked, Refusal, Verdict};
+use crate::{Asked, Refusal};
 use axis::point::some_beside;
 use border::BorderMode;
 use limits::MOST_PLACES;
@@ -102,7 +102,7 @@ fn resample_verdict(
     work: usize,
     out: [usize; 3],
     a: Axes,
-) -> Verdict
+) -> Result<(), Refusal>
     requires lengths { Lengths r.dims }
     requires lengths_2 { Lengths out }
     ensures { result ≡ first (resample_checks asked r input.now output coverage work out a) }
@@ -113,19 +113,19 @@ fn resample_verdict(
     let wanted = count_of(out);
     let need = needed(r);
     if some_too_large(count, wanted, need) {
-        return Verdict::Refused(Refusal::Count);
+        return Err(Refusal::Count);
     }
     let places = places_of(asked, wanted);
     if some_wrong(input.len(), count, output, coverage, places, work, need) {
-        return Verdict::Refused(Refusal::Buffer);
+        return Err(Refusal::Buffer);
     }
     if wild_any(mode, input) {
-        return Verdict::Refused(Refusal::Value);
+        return Err(Refusal::Value);
     }
     if beside_any(r, a) {
-        return Verdict::Refused(Refusal::Beside);
+        return Err(Refusal::Beside);
     }
-    Verdict::Passed
+    Ok(())
 }
 
 pub fn shift_verdict(
@@ -135,22 +135,22 @@ pub fn shift_verdict(
     output: usize,
     coverage: usize,
     work: usize,
-) -> Verdict
+) -> Result<(), Refusal>
     ensures { result ≡ first (shift_checks asked r input.now output coverage work) }
 {
     let dims = r.dims;
     let factors = r.factors;
     if r.order > 5 {
-        return Verdict::Refused(Refusal::Order);
+        return Err(Refusal::Order);
     }
     if bad_lengths(dims) {
-        return Verdict::Refused(Refusal::Length);
+        return Err(Refusal::Length);
     }
     if bad_shifts(factors) {
-        return Verdict::Refused(Refusal::Factor);
+        return Err(Refusal::Factor);
     }
     if moves_slices(dims, factors) {
-        return Verdict::Refused(Refusal::Slice);
+        return Err(Refusal::Slice);
     }
     resample_verdict(asked, r, input, output, coverage, work, dims, shift_axes(r))
 }
@@ -162,26 +162,26 @@ pub fn zoom_verdict(
     output: usize,
     coverage: usize,
     work: usize,
-) -> Verdict
+) -> Result<(), Refusal>
     ensures { result ≡ first (zoom_checks asked r input.now output coverage work) }
 {
     let dims = r.dims;
     let factors = r.factors;
     if r.order > 5 {
-        return Verdict::Refused(Refusal::Order);
+        return Err(Refusal::Order);
     }
     if bad_lengths(dims) {
-        return Verdict::Refused(Refusal::Length);
+        return Err(Refusal::Length);
     }
     if bad_zooms(factors) {
-        return Verdict::Refused(Refusal::Factor);
+        return Err(Refusal::Factor);
     }
     let out = zoom_dims(r);
     if zooms_slices(dims, out) {
-        return Verdict::Refused(Refusal::Slice);
+        return Err(Refusal::Slice);
     }
     if bad_outputs(dims, out) {
-        return Verdict::Refused(Refusal::OutputLength);
+        return Err(Refusal::OutputLength);
     }
     resample_verdict(
         asked,
@@ -196,13 +196,13 @@ pub fn zoom_verdict(
 }
 
 // Refusal 11 of one voxel.
-fn index_verdict(out: [usize; 3], at: [usize; 3]) -> Verdict
+fn index_verdict(out: [usize; 3], at: [usize; 3]) -> Result<(), Refusal>
     ensures { result ≡ first (index_checks out at) }
 {
     if bad_indices(out, at) {
-        return Verdict::Refused(Refusal::Index);
+        return Err(Refusal::Index);
     }
-    Verdict::Passed
+    Ok(())
 }
 
 pub fn shift_voxel_verdict(
@@ -212,14 +212,12 @@ pub fn shift_voxel_verdict(
     code: usize,
     work: usize,
     at: [usize; 3],
-) -> Verdict
+) -> Result<(), Refusal>
     ensures { result ≡ first (shift_voxel_checks r input.now value code work at) }
 {
     let dims = r.dims;
-    match shift_verdict(Asked::Voxel, r, input, value, code, work) {
-        Verdict::Passed => index_verdict(dims, at),
-        Verdict::Refused(why) => Verdict::Refused(why),
-    }
+    shift_verdict(Asked::Voxel, r, input, value, code, work)?;
+    index_verdict(dims, at)
 }
 
 pub fn zoom_voxel_verdict(
@@ -229,60 +227,63 @@ pub fn zoom_voxel_verdict(
     code: usize,
     work: usize,
     at: [usize; 3],
-) -> Verdict
+) -> Result<(), Refusal>
     ensures { result ≡ first (zoom_voxel_checks r input.now value code work at) }
 {
-    match zoom_verdict(Asked::Voxel, r, input, value, code, work) {
-        Verdict::Passed => index_verdict(zoom_dims(r), at),
-        Verdict::Refused(why) => Verdict::Refused(why),
-    }
+    zoom_verdict(Asked::Voxel, r, input, value, code, work)?;
+    index_verdict(zoom_dims(r), at)
 }
 
 // Refusals 3 and 6 to 8 of the two filters.
-fn filter_verdict(r: Request, input: &[f64], output: usize) -> Verdict
+fn filter_verdict(r: Request, input: &[f64], output: usize) -> Result<(), Refusal>
     ensures { result ≡ first (filter_checks r input.now output) }
 {
     let dims = r.dims;
     let mode = r.mode;
     if bad_lengths(dims) {
-        return Verdict::Refused(Refusal::Length);
+        return Err(Refusal::Length);
     }
     let count = count_of(dims);
     if too_large(count) {
-        return Verdict::Refused(Refusal::Count);
+        return Err(Refusal::Count);
     }
     if input.len() != count {
-        return Verdict::Refused(Refusal::Buffer);
+        return Err(Refusal::Buffer);
     }
     if output != count {
-        return Verdict::Refused(Refusal::Buffer);
+        return Err(Refusal::Buffer);
     }
     if wild_any(mode, input) {
-        return Verdict::Refused(Refusal::Value);
+        return Err(Refusal::Value);
     }
-    Verdict::Passed
+    Ok(())
 }
 
-pub fn spline_filter_verdict(r: Request, input: &[f64], output: usize) -> Verdict
+pub fn spline_filter_verdict(r: Request, input: &[f64], output: usize) -> Result<(), Refusal>
     ensures { result ≡ first (spline_filter_checks r input.now output) }
 {
     if r.order < 2 {
-        return Verdict::Refused(Refusal::Order);
+        return Err(Refusal::Order);
     }
     if r.order > 5 {
-        return Verdict::Refused(Refusal::Order);
+        return Err(Refusal::Order);
     }
     filter_verdict(r, input, output)
 }
 
-pub fn spline_filter1d_verdict(r: Request, axis: usize, input: &[f64], output: usize) -> Verdict
+pub fn spline_filter1d_verdict(
+    r: Request,
+    axis: usize,
+    input: &[f64],
+    output: usize,
+) -> Result<(), Refusal>
     ensures { result ≡ first (spline_filter1d_checks r axis input.now output) }
 {
     if r.order > 5 {
-        return Verdict::Refused(Refusal::Order);
+        return Err(Refusal::Order);
     }
     if axis > 2 {
-        return Verdict::Refused(Refusal::AxisNumber);
+        return Err(Refusal::AxisNumber);
     }
     filter_verdict(r, input, output)
 }

@@ -13,8 +13,7 @@ use recorded::calls::{
 use recorded::lengths::{
     INPUT_ROOM, OUTPUT_ROOM, WORK_ROOM, input_length, is_call, output_length, work_length,
 };
-use refusal::{Verdict, number_by};
-use resample::number_in;
+use refusal::{Refusal, number_in};
 use std::io;
 
 // Document 02's number of an index outside the output.
@@ -43,7 +42,7 @@ fn ask(
     index: [usize; 3],
     value: &mut [f64],
     code: &mut [u8],
-) -> Verdict {
+) -> Result<(), Refusal> {
     let r = request_at(words, at);
     if whole_at(words, at, 0) == 0 {
         return shift_voxel(r, input, work, index, value, code);
@@ -60,7 +59,7 @@ fn ask_at(words: &[u64], at: usize, work: &[f64], index: [usize; 3]) -> Told {
     let mut code = [NO_CODE; 1];
     let verdict = ask(words, at, &input[..n], work, index, &mut value, &mut code);
     Told {
-        number: number_by(verdict),
+        number: number_in(verdict),
         value: value[0],
         code: code[0],
     }

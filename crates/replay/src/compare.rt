@@ -5,14 +5,21 @@ ghost use Rattle.recorded.specs.Bookkeeping.{work_room};
 use answer_file::replay::{Replay, counted, moved_to};
 use answer_file::volumes::{expect_lane, expect_run};
 use answer_file::words::{in_pool, whole_at, wide, word_at};
+use coverage::counts::Counts;
 use recorded::calls::{BLANK, NO_CODE};
 use recorded::lengths::{
     OUTPUT_ROOM, coefficients, coverage_length, output_length, work_length, written,
 };
-use resample::{Answer, counts_in, number_in};
+use refusal::{Refusal, number_in};
+use resample::counts_in;
 
 // The number of the answer, and of a shift or a zoom its counts.
-pub fn expect_answer(words: &[u64], r: Replay, at: usize, answer: Answer) -> Replay {
+pub fn expect_answer(
+    words: &[u64],
+    r: Replay,
+    at: usize,
+    answer: Result<Counts, Refusal>,
+) -> Replay {
     let number = number_in(answer) as u64;
     let numbered = counted(r, number == word_at(words, at, 17));
     if whole_at(words, at, 0) < 2 {

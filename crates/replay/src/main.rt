@@ -12,11 +12,12 @@ use answer_file::load::load;
 use answer_file::print::{say, say_compared, say_end, say_whole};
 use answer_file::replay::{Replay, moved_to, refused};
 use compare::{expect_answer, expect_coverage, expect_output, expect_work};
+use coverage::counts::Counts;
 use recorded::calls::{
     BLANK, NO_CODE, after_call, call, is_for, number_of_calls, say_calls, start,
 };
 use recorded::lengths::{OUTPUT_ROOM, WORK_ROOM, is_call};
-use resample::{Answer, number_in};
+use refusal::{Refusal, number_in};
 use std::io;
 
 // The place of an answer in the tally: 0 to 9, and behind them 12.
@@ -28,7 +29,7 @@ fn place_of(number: u32) -> usize {
 }
 
 // One answer more with this number.
-fn tally(ends: &mut [u64; 11], answer: Answer) {
+fn tally(ends: &mut [u64; 11], answer: Result<Counts, Refusal>) {
     let n = place_of(number_in(answer));
     if n < 11 {
         ends[n] = std::num::wrapping_add_u64(ends[n], 1);

@@ -3,17 +3,15 @@ use Rattle.std.specs.Prelude.{ℕ, cond, List, ◌++◌, ltb, length, drop, Floa
 use Rattle.edge.specs.Edge.{padded}
 use Rattle.prefilter.specs.Volume.{filter_axis, filter_volume}
 use Rattle.coverage.specs.declared.counts.Counts.{Counts}
-use Rattle.resample.specs.declared.Answer.{Answer}
-use Rattle.resample.specs.declared.Answer.TheVariants as answer
 use Rattle.refusal.specs.declared.Asked.TheVariants.{Volume}
-use Rattle.refusal.specs.declared.Verdict.{Verdict}
-use Rattle.refusal.specs.declared.Verdict.TheVariants as verdict
 use Rattle.request.specs.declared.Axes.{Axes}
 use Rattle.request.specs.declared.Request.{Request}
 use Rattle.request.specs.Sizes.{filters, edges, source_dims, needed, shift_axes, zoom_axes}
-use Rattle.refusal.specs.Refusals.{number_of, first, shift_checks, zoom_checks, spline_filter_checks, spline_filter1d_checks}
+use Rattle.refusal.specs.Refusals.{first, shift_checks, zoom_checks, spline_filter_checks, spline_filter1d_checks}
 use Rattle.coverage.specs.Coverage.{own_codes, counts_of, none}
 use Rattle.voxels.specs.Voxel.{values}
+use Rattle.std.specs.Prelude.{Result, Ok, Err, ⊤}
+use Rattle.refusal.specs.declared.Refusal.{Refusal}
 
 -- ---- what the sums read: "Nearest in `shift` and `zoom` first pads"; so does Replicate
 unfoldable pub source_of : Request → List Float → List Float
@@ -27,12 +25,12 @@ coefficients r input = cond (filters r) (filter_volume r.mode r.order (source_di
 -- ---- shift and zoom
 -- the answer, and what the lent buffers then hold
 pub record Call : Type 0 where
-  pub answer : Answer
+  pub answer : Result Counts Refusal
   pub output : List Float
   pub coverage : List ℕ
   pub work : List Float
 
-abbrev pub call_of : Answer → List Float → List ℕ → List Float → Call
+abbrev pub call_of : Result Counts Refusal → List Float → List ℕ → List Float → Call
 call_of answer output coverage work = record { answer = answer; output = output; coverage = coverage; work = work }
 
 abbrev pub values_of : Request → Axes → List Float → List Float
@@ -47,11 +45,11 @@ work_after r input work = cond (filters r) (coefficients r input ++ drop (needed
 
 -- what a success returns and leaves
 abbrev pub success : Request → Axes → List Float → List Float → Call
-success r a input work = call_of (answer.Done (counts_of (codes_of r a))) (values_of r a input) (codes_of r a) (work_after r input work)
+success r a input work = call_of (Ok (counts_of (codes_of r a))) (values_of r a input) (codes_of r a) (work_after r input work)
 
-abbrev pub call_by : Verdict → Request → Axes → List Float → List Float → List ℕ → List Float → Call
-call_by verdict.Passed r a input output coverage work = success r a input work
-call_by (verdict.Refused why) r a input output coverage work = call_of (answer.Refused why) output coverage work
+abbrev pub call_by : Result ⊤ Refusal → Request → Axes → List Float → List Float → List ℕ → List Float → Call
+call_by (Ok tt) r a input output coverage work = success r a input work
+call_by (Err why) r a input output coverage work = call_of (Err why) output coverage work
 
 unfoldable pub shift_call : Request → List Float → List Float → List ℕ → List Float → Call
 shift_call r input output coverage work = call_by (first (shift_checks Volume r input (length output) (length coverage) (length work))) r (shift_axes r) input output coverage work
@@ -59,26 +57,22 @@ shift_call r input output coverage work = call_by (first (shift_checks Volume r 
 unfoldable pub zoom_call : Request → List Float → List Float → List ℕ → List Float → Call
 zoom_call r input output coverage work = call_by (first (zoom_checks Volume r input (length output) (length coverage) (length work))) r (zoom_axes r) input output coverage work
 
--- document 01's number (0 for success) and counts of an answer
-abbrev pub number_in : Answer → ℕ
-number_in (answer.Done counts) = 0
-number_in (answer.Refused why) = number_of why
-
-abbrev pub counts_in : Answer → Counts
-counts_in (answer.Done counts) = counts
-counts_in (answer.Refused why) = none
+-- document 01's counts of an answer
+abbrev pub counts_in : Result Counts Refusal → Counts
+counts_in (Ok counts) = counts
+counts_in (Err why) = none
 
 -- ---- the two filters: the verdict is their answer
 pub record FilterCall : Type 0 where
-  pub answer : Verdict
+  pub answer : Result ⊤ Refusal
   pub output : List Float
 
-abbrev pub filter_call_of : Verdict → List Float → FilterCall
+abbrev pub filter_call_of : Result ⊤ Refusal → List Float → FilterCall
 filter_call_of answer output = record { answer = answer; output = output }
 
-abbrev pub filter_call_by : Verdict → List Float → List Float → FilterCall
-filter_call_by verdict.Passed filtered output = filter_call_of verdict.Passed filtered
-filter_call_by (verdict.Refused why) filtered output = filter_call_of (verdict.Refused why) output
+abbrev pub filter_call_by : Result ⊤ Refusal → List Float → List Float → FilterCall
+filter_call_by (Ok tt) filtered output = filter_call_of (Ok tt) filtered
+filter_call_by (Err why) filtered output = filter_call_of (Err why) output
 
 unfoldable pub spline_filter_call : Request → List Float → List Float → FilterCall
 unfolding filter_volume

@@ -1,5 +1,5 @@
 // What an admitted call writes: the coefficients, the values, the codes.
-ghost use Rattle.std.specs.Prelude.{◌≡◌, true, false, ◌*◌, ◌≤◌, length};
+ghost use Rattle.std.specs.Prelude.{◌≡◌, true, false, ◌*◌, ◌≤◌, length, Ok};
 ghost use Rattle.limits.specs.Limits.{longest};
 ghost use Rattle.prefilter.specs.Volume.{count_of};
 ghost use Rattle.request.specs.Sizes.{filters, source_dims, needed};
@@ -7,7 +7,6 @@ ghost use Rattle.request.specs.Bookkeeping.{Lengths};
 ghost use Rattle.refusal.specs.Bookkeeping.{Admitted, Passes};
 ghost use Rattle.coverage.specs.Coverage.{counts_of};
 ghost use Rattle.resample.specs.Call.{source_of, coefficients, call_of, values_of, codes_of, work_after, success};
-ghost use Rattle.resample.specs.declared.Answer.TheVariants.{Done};
 
 use axis::coordinate::has_pad;
 use coverage::counts::{Counts, count_codes};
@@ -114,7 +113,7 @@ pub(crate) fn write(
     work: &mut [f64],
 ) -> Counts
     requires { Passes r a (a.x.out * (a.y.out * a.z.out)) (length input.now) (length output.old) (length coverage.old) (length work.old) }
-    ensures { call_of (Done result) output.new coverage.new work.new ≡ success r a input.now work.old }
+    ensures { call_of (Ok result) output.new coverage.new work.new ≡ success r a input.now work.old }
 {
     write_values(r, a, input, output, work);
     write_codes(r, a, coverage)

@@ -17,15 +17,11 @@ use Rattle.request.specs.declared.Request.{Request}
 use Rattle.refusal.specs.declared.Asked.TheVariants.{Volume}
 use Rattle.refusal.specs.declared.Refusal.{Refusal}
 use Rattle.refusal.specs.declared.Refusal.TheVariants.{NotNpy, Order, AxisNumber, Length, Factor, Slice, OutputLength, Count, Buffer, Value, Beside, Index}
-use Rattle.refusal.specs.declared.Verdict.{Verdict}
-use Rattle.refusal.specs.declared.Verdict.TheVariants.{Passed, Refused}
-use Rattle.refusal.specs.Refusals.{Check, number_of, first, shift_checks, zoom_checks, shift_voxel_checks, zoom_voxel_checks, shift_point_checks, zoom_point_checks, spline_filter_checks, spline_filter1d_checks, number_by}
+use Rattle.refusal.specs.Refusals.{Check, number_of, first, shift_checks, zoom_checks, shift_voxel_checks, zoom_voxel_checks, shift_point_checks, zoom_point_checks, spline_filter_checks, spline_filter1d_checks, number_in}
 use Rattle.refusal.proofs.Firsts.{found_among}
 use Rattle.request.specs.Sizes.{shift_axes, zoom_axes}
 use Rattle.coverage.specs.Coverage.{none}
-use Rattle.resample.specs.declared.Answer.{Answer}
-use Rattle.resample.specs.declared.Answer.TheVariants as answer
-use Rattle.resample.specs.Call.{Call, FilterCall, call_of, call_by, number_in, shift_call, zoom_call, filter_call_by, spline_filter_call, spline_filter1d_call}
+use Rattle.resample.specs.Call.{Call, FilterCall, call_of, call_by, shift_call, zoom_call, filter_call_by, spline_filter_call, spline_filter1d_call}
 use Rattle.one_voxel.specs.declared.Voxel.{Voxel}
 use Rattle.one_voxel.specs.Call.{VoxelCall, voxel_call_by, shift_voxel_call, zoom_voxel_call}
 use Rattle.one_voxel.specs.Points.{point_call_by, shift_point_call, zoom_point_call}
@@ -36,6 +32,8 @@ use Rattle.numbers.specs.Numbers.{is_mode, mode_of, places, tally, cleared}
 use Rattle.vurelika.specs.Door.{unknown_mode, Entry, Door, door_of, answered, door_by, filter_door_of, filter_door_by, VoxelDoor, voxel_door_of, voxel_door_by, PointDoor, Pointing, shift_pointing, zoom_pointing, point_door_of, point_door_by, npy_door}
 use Rattle.vurelika.proofs.Empty.{in_place, early, in_place-early, EmptyRefused, empty_refused_shift, empty_refused_zoom}
 use Rattle.vurelika.proofs.Doors.{unknown, filter_unknown}
+use Rattle.std.specs.Prelude.{Result, Ok, Err, ⊤}
+use Rattle.coverage.specs.declared.counts.Counts.{Counts}
 
 -- ---- the numbers
 -- a refusal's number is not 0
@@ -57,8 +55,8 @@ numbered Index = lit≤ tt
 abbrev nine : Refusal → Bool
 nine why = leb (number_of why) 9
 
-abbrev Nine : Verdict → Type 0
-Nine v = (why : Refusal) → v ≡ Refused why → nine why ≡ true
+abbrev Nine : Result ⊤ Refusal → Type 0
+Nine v = (why : Refusal) → v ≡ Err why → nine why ≡ true
 
 -- ---- shift and zoom
 -- one of these, or 12
@@ -70,11 +68,11 @@ ten why = up_to9_or12 (number_of why)
 
 -- an entry answers 0, or it refuses by one of the ten and leaves what it was lent
 abbrev pub Leaves : Call → List Float → List ℕ → List Float → Type 0
-Leaves call output coverage work = (number_in call.answer ≡ 0) ⊎ ((why : Refusal) × (ten why ≡ true) × (call ≡ call_of (answer.Refused why) output coverage work))
+Leaves call output coverage work = (number_in call.answer ≡ 0) ⊎ ((why : Refusal) × (ten why ≡ true) × (call ≡ call_of (Err why) output coverage work))
 
-call_leaves : (v : Verdict) → ((why : Refusal) → v ≡ Refused why → ten why ≡ true) → (r : Request) (a : Axes) (input output : List Float) (coverage : List ℕ) (work : List Float) → Leaves (call_by v r a input output coverage work) output coverage work
-call_leaves Passed h r a input output coverage work = inl refl
-call_leaves (Refused why) h r a input output coverage work = inr (why, h why refl, refl)
+call_leaves : (v : Result ⊤ Refusal) → ((why : Refusal) → v ≡ Err why → ten why ≡ true) → (r : Request) (a : Axes) (input output : List Float) (coverage : List ℕ) (work : List Float) → Leaves (call_by v r a input output coverage work) output coverage work
+call_leaves (Ok tt) h r a input output coverage work = inl refl
+call_leaves (Err why) h r a input output coverage work = inr (why, h why refl, refl)
 
 leaves_range : {call : Call} {output : List Float} {coverage : List ℕ} {work : List Float} → Leaves call output coverage work → up_to9_or12 (number_in call.answer) ≡ true
 leaves_range (inl done) = ap up_to9_or12 done
@@ -94,7 +92,7 @@ unfolding zoom_call
 zoom_sound = record { empty = empty_refused_zoom; leaves = λ r input output coverage work. let l = zoom_checks Volume r input (length output) (length coverage) (length work) in call_leaves (first l) (found_among ten l refl) r (zoom_axes r) input output coverage work }
 
 -- one of the refusals that stand before 7, or 7, in its place before what `answer` would be, and every buffer as it was lent
-pub record CountsRefused (door : Door) (answer : Answer) (output : List Float) (coverage : List ℕ) (work : List Float) (counts : List ℕ) : Type 0 where
+pub record CountsRefused (door : Door) (answer : Result Counts Refusal) (output : List Float) (coverage : List ℕ) (work : List Float) (counts : List ℕ) : Type 0 where
   pub number : ℕ
   pub least : 1 ≤ number
   pub most : early number ≡ true
@@ -155,13 +153,13 @@ module _ {entry : Entry} (sound : Sound entry) (mode : ℕ) (r : Request) (input
 
 -- ---- the two filters
 module _ (mode : ℕ) (r : Request) (input output : List Float) where
-  filter_range : (v : Verdict) (made : List Float) → Nine v → let door = filter_door_by mode (filter_call_by v made output) output in (door.status ≡ unknown_mode) ⊎ (door.status ≤ 9)
+  filter_range : (v : Result ⊤ Refusal) (made : List Float) → Nine v → let door = filter_door_by mode (filter_call_by v made output) output in (door.status ≡ unknown_mode) ⊎ (door.status ≤ 9)
   unfolding filter_door_by
   filter_range v made h = go (is_mode mode) v h
     where
-      go : (known : Bool) (v : Verdict) → Nine v → let call = filter_call_by v made output in let door = cond known (filter_door_of (number_by call.answer) call.output) (filter_door_of unknown_mode output) in (door.status ≡ unknown_mode) ⊎ (door.status ≤ 9)
-      go true Passed h = inr (lit≤ tt)
-      go true (Refused why) h = inr (leb-true (number_of why) 9 (h why refl))
+      go : (known : Bool) (v : Result ⊤ Refusal) → Nine v → let call = filter_call_by v made output in let door = cond known (filter_door_of (number_in call.answer) call.output) (filter_door_of unknown_mode output) in (door.status ≡ unknown_mode) ⊎ (door.status ≤ 9)
+      go true (Ok tt) h = inr (lit≤ tt)
+      go true (Err why) h = inr (leb-true (number_of why) 9 (h why refl))
       go false v h = inl refl
 
   pub filter_status_range : let door = filter_door_by mode (spline_filter_call r input output) output in (door.status ≡ unknown_mode) ⊎ (door.status ≤ 9)
@@ -183,7 +181,7 @@ up_to9_or11_or12 n = up_to9_or12 n || eqb n 11
 abbrev eleven : Refusal → Bool
 eleven why = up_to9_or11_or12 (number_of why)
 
-module _ (mode : ℕ) (v : Verdict) (made : Voxel) (value : List Float) (code : List ℕ) where
+module _ (mode : ℕ) (v : Result ⊤ Refusal) (made : Voxel) (value : List Float) (code : List ℕ) where
   abbrev voxel_door : VoxelDoor
   voxel_door = voxel_door_by mode (voxel_call_by v made value code) value code
 
@@ -192,19 +190,19 @@ module _ (mode : ℕ) (v : Verdict) (made : Voxel) (value : List Float) (code : 
   unfolding voxel_door_by
   voxel_leaves = go (is_mode mode) v
     where
-      go : (known : Bool) (v : Verdict) → let call = voxel_call_by v made value code in let door = cond known (voxel_door_of (number_by call.answer) call.value call.code) (voxel_door_of unknown_mode value code) in (door.status ≡ 0 → ⊥) → door ≡ voxel_door_of door.status value code
-      go true Passed refused = absurd (refused refl)
-      go true (Refused why) refused = refl
+      go : (known : Bool) (v : Result ⊤ Refusal) → let call = voxel_call_by v made value code in let door = cond known (voxel_door_of (number_in call.answer) call.value call.code) (voxel_door_of unknown_mode value code) in (door.status ≡ 0 → ⊥) → door ≡ voxel_door_of door.status value code
+      go true (Ok tt) refused = absurd (refused refl)
+      go true (Err why) refused = refl
       go false v refused = refl
 
   -- no answer but 255 lies outside 0 to 9, 11 and 12
-  voxel_range : ((why : Refusal) → v ≡ Refused why → eleven why ≡ true) → (voxel_door.status ≡ unknown_mode) ⊎ (up_to9_or11_or12 voxel_door.status ≡ true)
+  voxel_range : ((why : Refusal) → v ≡ Err why → eleven why ≡ true) → (voxel_door.status ≡ unknown_mode) ⊎ (up_to9_or11_or12 voxel_door.status ≡ true)
   unfolding voxel_door_by
   voxel_range h = go (is_mode mode) v h
     where
-      go : (known : Bool) (v : Verdict) → ((why : Refusal) → v ≡ Refused why → eleven why ≡ true) → let call = voxel_call_by v made value code in let door = cond known (voxel_door_of (number_by call.answer) call.value call.code) (voxel_door_of unknown_mode value code) in (door.status ≡ unknown_mode) ⊎ (up_to9_or11_or12 door.status ≡ true)
-      go true Passed h = inr refl
-      go true (Refused why) h = inr (h why refl)
+      go : (known : Bool) (v : Result ⊤ Refusal) → ((why : Refusal) → v ≡ Err why → eleven why ≡ true) → let call = voxel_call_by v made value code in let door = cond known (voxel_door_of (number_in call.answer) call.value call.code) (voxel_door_of unknown_mode value code) in (door.status ≡ unknown_mode) ⊎ (up_to9_or11_or12 door.status ≡ true)
+      go true (Ok tt) h = inr refl
+      go true (Err why) h = inr (h why refl)
       go false v h = inl refl
 
 -- of both entries
@@ -227,32 +225,32 @@ zoom_voxel_sound = record {
 }
 
 -- ---- the record of one axis
-module _ (v : Verdict) (order prefilter mode : ℕ) (a : Axis) (i : ℕ) (coordinate : List Float) (neighbours : List ℕ) (weights : List Float) where
+module _ (v : Result ⊤ Refusal) (order prefilter mode : ℕ) (a : Axis) (i : ℕ) (coordinate : List Float) (neighbours : List ℕ) (weights : List Float) where
   -- the door of a call that the verdict v decides
   abbrev point_door : PointDoor
   point_door = point_door_by (λ p m. point_call_by v order m a i) prefilter mode coordinate neighbours weights
 
-  abbrev point_cases : Bool → Verdict → PointDoor
+  abbrev point_cases : Bool → Result ⊤ Refusal → PointDoor
   point_cases known v =
       let call = point_call_by v order (mode_of mode (num 0)) a i coordinate neighbours weights in
-      cond known (point_door_of (number_by call.answer) call.coordinate call.at call.weight) (point_door_of unknown_mode coordinate neighbours weights)
+      cond known (point_door_of (number_in call.answer) call.coordinate call.at call.weight) (point_door_of unknown_mode coordinate neighbours weights)
 
   point_leaves : (point_door.status ≡ 0 → ⊥) → point_door ≡ point_door_of point_door.status coordinate neighbours weights
   unfolding point_door_by
   point_leaves = go (is_mode mode) v
     where
-      go : (known : Bool) (v : Verdict) → ((point_cases known v).status ≡ 0 → ⊥) → point_cases known v ≡ point_door_of (point_cases known v).status coordinate neighbours weights
-      go true Passed refused = absurd (refused refl)
-      go true (Refused why) refused = refl
+      go : (known : Bool) (v : Result ⊤ Refusal) → ((point_cases known v).status ≡ 0 → ⊥) → point_cases known v ≡ point_door_of (point_cases known v).status coordinate neighbours weights
+      go true (Ok tt) refused = absurd (refused refl)
+      go true (Err why) refused = refl
       go false v refused = refl
 
-  point_range : ((why : Refusal) → v ≡ Refused why → eleven why ≡ true) → (point_door.status ≡ unknown_mode) ⊎ (up_to9_or11_or12 point_door.status ≡ true)
+  point_range : ((why : Refusal) → v ≡ Err why → eleven why ≡ true) → (point_door.status ≡ unknown_mode) ⊎ (up_to9_or11_or12 point_door.status ≡ true)
   unfolding point_door_by
   point_range h = go (is_mode mode) v h
     where
-      go : (known : Bool) (v : Verdict) → ((why : Refusal) → v ≡ Refused why → eleven why ≡ true) → ((point_cases known v).status ≡ unknown_mode) ⊎ (up_to9_or11_or12 (point_cases known v).status ≡ true)
-      go true Passed h = inr refl
-      go true (Refused why) h = inr (h why refl)
+      go : (known : Bool) (v : Result ⊤ Refusal) → ((why : Refusal) → v ≡ Err why → eleven why ≡ true) → ((point_cases known v).status ≡ unknown_mode) ⊎ (up_to9_or11_or12 (point_cases known v).status ≡ true)
+      go true (Ok tt) h = inr refl
+      go true (Err why) h = inr (h why refl)
       go false v h = inl refl
 
 -- a mode with any fill is as good as the one with 0 that the door asks for
@@ -294,9 +292,9 @@ module _ (n : ℕ) (factor : Float) (order i : ℕ) where
   }
 
 -- ---- the functions of .npy
-npy_leaves : (v : Verdict) (made held : List ℕ) → let door = npy_door (npy_call_by v made held) in (door.status ≡ 0 → ⊥) → door.buffer ≡ held
-npy_leaves Passed made held refused = absurd (refused refl)
-npy_leaves (Refused why) made held refused = refl
+npy_leaves : (v : Result ⊤ Refusal) (made held : List ℕ) → let door = npy_door (npy_call_by v made held) in (door.status ≡ 0 → ⊥) → door.buffer ≡ held
+npy_leaves (Ok tt) made held refused = absurd (refused refl)
+npy_leaves (Err why) made held refused = refl
 
 -- any answer but 0 leaves the lent buffer
 pub npy_dims_leaves : (file dims : List ℕ) → ((npy_door (dims_call file dims)).status ≡ 0 → ⊥) → (npy_door (dims_call file dims)).buffer ≡ dims

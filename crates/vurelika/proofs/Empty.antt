@@ -15,17 +15,15 @@ use Rattle.request.specs.declared.Request.{Request}
 use Rattle.refusal.specs.declared.Asked.TheVariants.{Volume}
 use Rattle.refusal.specs.declared.Refusal.{Refusal}
 use Rattle.refusal.specs.declared.Refusal.TheVariants.{Buffer, Value, Beside}
-use Rattle.refusal.specs.declared.Verdict.{Verdict}
-use Rattle.refusal.specs.declared.Verdict.TheVariants.{Passed, Refused}
 use Rattle.request.specs.Sizes.{needed, zoom_dims, shift_axes, zoom_axes}
 use Rattle.request.specs.Bookkeeping.{Lengths}
 use Rattle.request.specs.Conditions.{wrong, wild_fill, some_wild, beside_any}
-use Rattle.refusal.specs.Refusals.{Check, number_of, first, resample_checks, shift_checks, zoom_checks, number_by}
+use Rattle.refusal.specs.Refusals.{Check, number_of, first, resample_checks, shift_checks, zoom_checks, number_in}
 use Rattle.refusal.proofs.Firsts.{skip, stop}
 use Rattle.request.proofs.Requests.{good_lengths, good_outputs}
-use Rattle.resample.specs.declared.Answer.TheVariants as answer
-use Rattle.resample.specs.Call.{Call, call_of, call_by, number_in, shift_call, zoom_call}
+use Rattle.resample.specs.Call.{Call, call_of, call_by, shift_call, zoom_call}
 use Rattle.vurelika.specs.Door.{Entry}
+use Rattle.std.specs.Prelude.{Result, Ok, Err, ⊤}
 
 -- where 7 is given in its place in the order: 1 to 6 and 12 stand before it, and success, 8 and 9 come after
 abbrev pub in_place : ℕ → ℕ
@@ -58,8 +56,8 @@ in_place-early n = go (ltb 0 n) (ltb n 7) refl (eqb n 12) refl
 -- the first check that applies is one of these or 7, in its place among those of a call that was lent any output
 record Early (checks others : List Check) : Type 0 where
   why : Refusal
-  is : first checks ≡ Refused why
-  place : number_of why ≡ in_place (number_by (first others))
+  is : first checks ≡ Err why
+  place : number_of why ≡ in_place (number_in (first others))
 
 -- a check before 7 that both calls share
 shared : {c : Check} {cs others : List Check} → in_place (number_of c.says) ≡ number_of c.says → (c.applies ≡ false → Early cs others) → Early (c ∷ cs) (c ∷ others)
@@ -69,14 +67,14 @@ shared {c} {cs} {others} before rest = go c.applies refl
     go true some = record {
       why = c.says;
       is = sym (stop c.says (first cs) some);
-      place = sym before ∙ ap (λ (v : Verdict). in_place (number_by v)) (stop c.says (first others) some);
+      place = sym before ∙ ap (λ (v : Result ⊤ Refusal). in_place (number_in v)) (stop c.says (first others) some);
     }
     go false none =
         let h = rest none in
         record {
           why = h.why;
           is = sym (skip c.says none (sym h.is));
-          place = h.place ∙ ap (λ (v : Verdict). in_place (number_by v)) (skip c.says none refl);
+          place = h.place ∙ ap (λ (v : Result ⊤ Refusal). in_place (number_in v)) (skip c.says none refl);
         }
 
 -- an empty output has a wrong length
@@ -90,7 +88,7 @@ second_of true b c d e = refl
 second_of false b c d e = simp e
 
 -- whatever 7, 8 and 9 say of the other call
-at_7 : (buffer value beside : Bool) → 7 ≡ in_place (number_by (cond buffer (Refused Buffer) (cond value (Refused Value) (cond beside (Refused Beside) Passed))))
+at_7 : (buffer value beside : Bool) → 7 ≡ in_place (number_in (cond buffer (Err Buffer) (cond value (Err Value) (cond beside (Err Beside) (Ok tt)))))
 at_7 true value beside = refl
 at_7 false true beside = refl
 at_7 false false true = refl
@@ -129,7 +127,7 @@ module _ (r : Request) (input : List Float) (output coverage work : ℕ) where
 pub record Refuses (empty other : Call) (coverage : List ℕ) (work : List Float) : Type 0 where
   pub why : Refusal
   pub place : number_of why ≡ in_place (number_in other.answer)
-  pub left : empty ≡ call_of (answer.Refused why) [] coverage work
+  pub left : empty ≡ call_of (Err why) [] coverage work
 
 refuses_by :
     (r : Request) (a : Axes) (input output : List Float) (coverage : List ℕ) (work : List Float) {checks others : List Check} → Early checks others →
@@ -137,12 +135,12 @@ refuses_by :
 refuses_by r a input output coverage work {checks} {others} e = record {
   why = e.why;
   place = e.place ∙ ap in_place (told (first others));
-  left = ap (λ (v : Verdict). call_by v r a input [] coverage work) e.is;
+  left = ap (λ (v : Result ⊤ Refusal). call_by v r a input [] coverage work) e.is;
 }
   where
-    told : (v : Verdict) → number_by v ≡ number_in (call_by v r a input output coverage work).answer
-    told Passed = refl
-    told (Refused why) = refl
+    told : (v : Result ⊤ Refusal) → number_in v ≡ number_in (call_by v r a input output coverage work).answer
+    told (Ok tt) = refl
+    told (Err why) = refl
 
 -- an entry refuses so whatever is asked and lent
 abbrev pub EmptyRefused : Entry → Type 0

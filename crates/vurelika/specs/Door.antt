@@ -6,10 +6,10 @@ use Rattle.axis.specs.Length.{output_length}
 use Rattle.request.specs.declared.Request.{Request}
 use Rattle.request.specs.Sizes.{needed}
 use Rattle.request.specs.Conditions.{bad_order, bad_length, bad_lengths, bad_zoom, zooms_slice, bad_output}
-use Rattle.refusal.specs.Refusals.{number_by}
+use Rattle.refusal.specs.Refusals.{number_in}
 use Rattle.numbers.specs.Numbers.{is_mode, mode_of, plain_request_of, places, tally, cleared}
 use Rattle.npy.specs.Call.{NpyCall}
-use Rattle.resample.specs.Call.{Call, FilterCall, number_in, counts_in}
+use Rattle.resample.specs.Call.{Call, FilterCall, counts_in}
 use Rattle.one_voxel.specs.Call.{VoxelCall}
 use Rattle.one_voxel.specs.Points.{PointCall, shift_point_call, zoom_point_call}
 
@@ -54,7 +54,7 @@ abbrev pub filter_door_of : ℕ → List Float → FilterDoor
 filter_door_of status output = record { status = status; output = output }
 
 unfoldable pub filter_door_by : ℕ → FilterCall → List Float → FilterDoor
-filter_door_by mode call output = cond (is_mode mode) (filter_door_of (number_by call.answer) call.output) (filter_door_of unknown_mode output)
+filter_door_by mode call output = cond (is_mode mode) (filter_door_of (number_in call.answer) call.output) (filter_door_of unknown_mode output)
 
 -- ---- one voxel: `value` and `code` have exactly one place, else 7 in its place, which the entry gives
 pub record VoxelDoor : Type 0 where
@@ -66,7 +66,7 @@ abbrev pub voxel_door_of : ℕ → List Float → List ℕ → VoxelDoor
 voxel_door_of status value code = record { status = status; value = value; code = code }
 
 unfoldable pub voxel_door_by : ℕ → VoxelCall → List Float → List ℕ → VoxelDoor
-voxel_door_by mode call value code = cond (is_mode mode) (voxel_door_of (number_by call.answer) call.value call.code) (voxel_door_of unknown_mode value code)
+voxel_door_by mode call value code = cond (is_mode mode) (voxel_door_of (number_in call.answer) call.value call.code) (voxel_door_of unknown_mode value code)
 
 -- ---- the record of one axis, of which no fill is asked: it holds no value
 pub record PointDoor : Type 0 where
@@ -93,7 +93,7 @@ unfoldable pub point_door_by : Pointing → ℕ → ℕ → List Float → List 
 unfolding mode_of
 point_door_by entry prefilter mode coordinate neighbours weights =
     let call = entry (not (eqb prefilter 0)) (mode_of mode (num 0)) coordinate neighbours weights in
-    cond (is_mode mode) (point_door_of (number_by call.answer) call.coordinate call.at call.weight) (point_door_of unknown_mode coordinate neighbours weights)
+    cond (is_mode mode) (point_door_of (number_in call.answer) call.coordinate call.at call.weight) (point_door_of unknown_mode coordinate neighbours weights)
 
 -- ---- the functions of .npy: the buffer that is written is dims, volume or bytes
 pub record NpyDoor : Type 0 where
@@ -104,7 +104,7 @@ abbrev pub npy_door_of : ℕ → List ℕ → NpyDoor
 npy_door_of status buffer = record { status = status; buffer = buffer }
 
 abbrev pub npy_door : NpyCall → NpyDoor
-npy_door call = npy_door_of (number_by call.answer) call.buffer
+npy_door call = npy_door_of (number_in call.answer) call.buffer
 
 -- ---- how much a caller lends
 -- "0 where refusals 3 to 5 would answer", 12 among them since #106

@@ -14,10 +14,10 @@ use numbers::reports::{PLACES, clear, report};
 use numbers::requests::{is_mode, mode_of, plain_request_of, request_of};
 use one_voxel::point::{shift_point, zoom_point};
 use one_voxel::{shift_voxel, zoom_voxel};
-use refusal::number_by;
+use refusal::number_in;
 use request::conditions::{bad_length, bad_lengths, bad_output, bad_zoom, zooms_slice};
 use request::sizes::needed;
-use resample::{number_in, shift, spline_filter, spline_filter1d, zoom};
+use resample::{shift, spline_filter, spline_filter1d, zoom};
 
 // The answer to a mode that has no number.
 const UNKNOWN_MODE: u32 = 255;
@@ -105,7 +105,7 @@ pub extern "C" fn vurelika_spline_filter(
 {
     if is_mode(mode) {
         let r = plain_request_of(d0, d1, d2, order, 0, mode, fill);
-        number_by(spline_filter(r, input, output))
+        number_in(spline_filter(r, input, output))
     } else {
         UNKNOWN_MODE
     }
@@ -127,7 +127,7 @@ pub extern "C" fn vurelika_spline_filter1d(
 {
     if is_mode(mode) {
         let r = plain_request_of(d0, d1, d2, order, 0, mode, fill);
-        number_by(spline_filter1d(r, axis, input, output))
+        number_in(spline_filter1d(r, axis, input, output))
     } else {
         UNKNOWN_MODE
     }
@@ -157,7 +157,7 @@ pub extern "C" fn vurelika_shift_voxel(
 {
     if is_mode(mode) {
         let r = request_of(d0, d1, d2, f0, f1, f2, order, prefilter, mode, fill);
-        number_by(shift_voxel(r, input, work, [x, y, z], value, code))
+        number_in(shift_voxel(r, input, work, [x, y, z], value, code))
     } else {
         UNKNOWN_MODE
     }
@@ -187,7 +187,7 @@ pub extern "C" fn vurelika_zoom_voxel(
 {
     if is_mode(mode) {
         let r = request_of(d0, d1, d2, f0, f1, f2, order, prefilter, mode, fill);
-        number_by(zoom_voxel(r, input, work, [x, y, z], value, code))
+        number_in(zoom_voxel(r, input, work, [x, y, z], value, code))
     } else {
         UNKNOWN_MODE
     }
@@ -209,7 +209,7 @@ pub extern "C" fn vurelika_shift_point(
     ensures { point_door_of result coordinate.new neighbours.new weights.new ≡ point_door_by (shift_pointing length shift order index) prefilter mode coordinate.old neighbours.old weights.old }
 {
     if is_mode(mode) {
-        number_by(shift_point(
+        number_in(shift_point(
             length,
             shift,
             order,
@@ -240,7 +240,7 @@ pub extern "C" fn vurelika_zoom_point(
     ensures { point_door_of result coordinate.new neighbours.new weights.new ≡ point_door_by (zoom_pointing length factor order index) prefilter mode coordinate.old neighbours.old weights.old }
 {
     if is_mode(mode) {
-        number_by(zoom_point(
+        number_in(zoom_point(
             length,
             factor,
             order,
@@ -261,14 +261,14 @@ pub extern "C" fn vurelika_zoom_point(
 pub extern "C" fn vurelika_npy_dims(bytes: &[u8], dims: &mut [usize]) -> u32
     ensures { npy_door_of result dims.new ≡ npy_door (dims_call bytes.now dims.old) }
 {
-    number_by(npy::dims(bytes, dims))
+    number_in(npy::dims(bytes, dims))
 }
 
 #[unsafe(no_mangle)]
 pub extern "C" fn vurelika_npy_read(bytes: &[u8], volume: &mut [u64]) -> u32
     ensures { npy_door_of result volume.new ≡ npy_door (read_call bytes.now volume.old) }
 {
-    number_by(npy::read(bytes, volume))
+    number_in(npy::read(bytes, volume))
 }
 
 #[unsafe(no_mangle)]
@@ -288,7 +288,7 @@ pub extern "C" fn vurelika_npy_write(
 ) -> u32
     ensures { npy_door_of result bytes.new ≡ npy_door (write_call (d0 ∷ d1 ∷ d2 ∷ []) volume.now bytes.old) }
 {
-    number_by(npy::write([d0, d1, d2], volume, bytes))
+    number_in(npy::write([d0, d1, d2], volume, bytes))
 }
 
 // Zoom's output length; 0 where refusal 3, 4, 12 or 5 would answer.

@@ -3,9 +3,10 @@ ghost use Rattle.std.specs.Prelude.{◌<◌};
 
 use crate::print::{Codes, Numbers, Refused, Tally};
 use crate::runs::print_lanes;
-use refusal::Verdict;
+use coverage::counts::Counts;
+use refusal::Refusal;
 use request::Request;
-use resample::{Answer, counts_in, shift, spline_filter, spline_filter1d, zoom};
+use resample::{counts_in, shift, spline_filter, spline_filter1d, zoom};
 use std::io;
 use std::num::f64_to_bits_with_nan;
 
@@ -50,7 +51,7 @@ impl<'a, R: Print> Lines<'a, R> {
         lane: usize,
     ) -> io::Result<[f64; PLACES]>
     where
-        F: Fn(Request, &[f64], &mut [f64], &mut [u8], &mut [f64]) -> Answer + Drop,
+        F: Fn(Request, &[f64], &mut [f64], &mut [u8], &mut [f64]) -> Result<Counts, Refusal> + Drop,
         requires may_call { F.IsAlwaysCallable entry }
         requires some { 0 < lane }
     {
@@ -61,8 +62,8 @@ impl<'a, R: Print> Lines<'a, R> {
         let answer = entry(r, input, &mut output, &mut coverage, &mut work);
         print!(rt; "{name}:")?;
         match answer {
-            Answer::Done(_) => print_lanes(rt, &output, &coverage, lane)?,
-            Answer::Refused(why) => {
+            Ok(_) => print_lanes(rt, &output, &coverage, lane)?,
+            Err(why) => {
                 let untouched = is_blank(&output) && is_blank(&work) && has_no_code(&coverage);
                 print!(rt; "{}", Refused { why, untouched })?;
             }
@@ -97,12 +98,17 @@ impl<'a, R: Print> Lines<'a, R> {
     }
 
     // The line of a filter: every voxel. A filter has no codes and no counts.
-    fn filtered(&mut self, name: &str, verdict: Verdict, output: &[f64]) -> io::Result<()> {
+    fn filtered(
+        &mut self,
+        name: &str,
+        verdict: Result<(), Refusal>,
+        output: &[f64],
+    ) -> io::Result<()> {
         let rt = self.rt;
         print!(rt; "{name}:")?;
         match verdict {
-            Verdict::Passed => print!(rt; "{}", Numbers(output))?,
-            Verdict::Refused(why) => {
+            Ok(()) => print!(rt; "{}", Numbers(output))?,
+            Err(why) => {
                 let untouched = is_blank(output);
                 print!(rt; "{}", Refused { why, untouched })?;
             }

@@ -5,20 +5,21 @@ use lib.ListN.{length}
 use Rattle.prefilter.specs.Volume.{count_of}
 use Rattle.request.specs.declared.Axes.{Axes}
 use Rattle.refusal.specs.declared.Asked.TheVariants.{Volume}
-use Rattle.refusal.specs.declared.Verdict.TheVariants.{Passed}
 use Rattle.request.specs.Sizes.{shift_axes}
 use Rattle.refusal.specs.Bookkeeping.{Passes}
 use Rattle.refusal.specs.Refusals.{first, shift_checks}
+use Rattle.refusal.proofs.Firsts.{passed_up}
 use Rattle.resample.specs.Call.{shift_call}
 use Rattle.refusal.proofs.Admitting.{shift_passes}
 use Rattle.resample.proofs.Answering.{call_passed, call_refused}
-use Rattle.resample.proofs.shift.Goals.{In-Passed}
+use Rattle.resample.proofs.shift.Goals.{In_ok-shift_verdict}
 use Rattle.resample.proofs.shift.Goals as goal
+use Rattle.std.specs.Prelude.{Ok}
 
 -- nothing was refused
-module _ (c : In-Passed) where
-  cleared : first (shift_checks Volume c.args.r c.args.input.now (length c.args.output.now) (length c.args.coverage.now) (length c.args.work.now)) ≡ Passed
-  cleared = sym c.shift_verdict.ensures ∙ c.in-Passed.is
+module _ (c : In_ok-shift_verdict) where
+  cleared : first (shift_checks Volume c.args.r c.args.input.now (length c.args.output.now) (length c.args.coverage.now) (length c.args.work.now)) ≡ Ok tt
+  cleared = sym c.shift_verdict.ensures ∙ c.in_ok-shift_verdict.was
 
   passes : Passes c.args.r (shift_axes c.args.r) (count_of c.args.r.dims) (length c.args.input.now) (length c.args.output.now) (length c.args.coverage.now) (length c.args.work.now)
   passes = shift_passes Volume c.args.r c.args.input.now (length c.args.output.now) (length c.args.coverage.now) (length c.args.work.now) cleared
@@ -29,17 +30,17 @@ shift_axes-requires c = (passes c).admitted.lengths
 pub write-requires : goal.write-requires
 write-requires c =
     let a = c.args in
-    subst (λ (x : Axes). Passes a.r x (x.x.out * (x.y.out * x.z.out)) (length a.input.now) (length a.output.now) (length a.coverage.now) (length a.work.now)) (sym c.shift_axes.ensures) (passes (goal.at.write-requires c).In-Passed)
+    subst (λ (x : Axes). Passes a.r x (x.x.out * (x.y.out * x.z.out)) (length a.input.now) (length a.output.now) (length a.coverage.now) (length a.work.now)) (sym c.shift_axes.ensures) (passes (goal.at.write-requires c).In_ok-shift_verdict)
 
-pub returns-in-Passed : goal.returns-in-Passed
+pub returns : goal.returns
 unfolding shift_call
-returns-in-Passed c =
+returns c =
     let a = c.args in
     let axes = c.shift_axes in
-    call_passed a.r a.input.now a.output.now a.coverage.now a.work.now axes.result (shift_axes a.r) (cleared (goal.at.returns-in-Passed c).In-Passed) axes.ensures c.write.ensures
+    call_passed a.r a.input.now a.output.now a.coverage.now a.work.now axes.result (shift_axes a.r) (cleared (goal.at.returns c).In_ok-shift_verdict) axes.ensures c.write.ensures
 
-pub returns-in-Refused : goal.returns-in-Refused
+pub returns-in_err-shift_verdict : goal.returns-in_err-shift_verdict
 unfolding shift_call
-returns-in-Refused c =
+returns-in_err-shift_verdict c =
     let a = c.args in
-    call_refused a.r a.input.now a.output.now a.coverage.now a.work.now (shift_axes a.r) c.in-Refused.why (sym c.shift_verdict.ensures ∙ c.in-Refused.is)
+    rw (passed_up _ c.from_residual.ensures.1) (call_refused a.r a.input.now a.output.now a.coverage.now a.work.now (shift_axes a.r) _ (sym c.shift_verdict.ensures ∙ c.in_err-shift_verdict.was))

@@ -6,21 +6,22 @@ use lib.ListN.{length}
 use Rattle.prefilter.specs.Volume.{count_of}
 use Rattle.request.specs.declared.Axes.{Axes}
 use Rattle.refusal.specs.declared.Asked.TheVariants.{Volume}
-use Rattle.refusal.specs.declared.Verdict.TheVariants.{Passed}
 use Rattle.request.specs.Sizes.{zoom_dims, zoom_axes}
 use Rattle.request.specs.Bookkeeping.{Lengths, Zoomed}
 use Rattle.refusal.specs.Bookkeeping.{Passes}
 use Rattle.refusal.specs.Refusals.{first, zoom_checks}
+use Rattle.refusal.proofs.Firsts.{passed_up}
 use Rattle.resample.specs.Call.{zoom_call}
 use Rattle.refusal.proofs.Admitting.{zoom_passes, zoom_ready}
 use Rattle.resample.proofs.Answering.{call_passed, call_refused}
-use Rattle.resample.proofs.zoom.Goals.{In-Passed}
+use Rattle.resample.proofs.zoom.Goals.{In_ok-zoom_verdict}
 use Rattle.resample.proofs.zoom.Goals as goal
+use Rattle.std.specs.Prelude.{Ok}
 
 -- nothing was refused
-module _ (c : In-Passed) where
-  cleared : first (zoom_checks Volume c.args.r c.args.input.now (length c.args.output.now) (length c.args.coverage.now) (length c.args.work.now)) ≡ Passed
-  cleared = sym c.zoom_verdict.ensures ∙ c.in-Passed.is
+module _ (c : In_ok-zoom_verdict) where
+  cleared : first (zoom_checks Volume c.args.r c.args.input.now (length c.args.output.now) (length c.args.coverage.now) (length c.args.work.now)) ≡ Ok tt
+  cleared = sym c.zoom_verdict.ensures ∙ c.in_ok-zoom_verdict.was
 
   passes : Passes c.args.r (zoom_axes c.args.r) (count_of (zoom_dims c.args.r)) (length c.args.input.now) (length c.args.output.now) (length c.args.coverage.now) (length c.args.work.now)
   passes = zoom_passes Volume c.args.r c.args.input.now (length c.args.output.now) (length c.args.coverage.now) (length c.args.work.now) cleared
@@ -32,22 +33,22 @@ pub zoom_dims-requires : goal.zoom_dims-requires
 zoom_dims-requires c = (ready c).0
 
 pub zoom_axes-a-requires : goal.zoom_axes-a-requires
-zoom_axes-a-requires c = record { lengths = (passes (goal.at.zoom_axes-a-requires c).In-Passed).admitted.lengths; out_value = (c.zoom_dims.ensures, subst (λ (d : List ℕ). Lengths d) (sym c.zoom_dims.ensures) (ready (goal.at.zoom_axes-a-requires c).In-Passed).1) }
+zoom_axes-a-requires c = record { lengths = (passes (goal.at.zoom_axes-a-requires c).In_ok-zoom_verdict).admitted.lengths; out_value = (c.zoom_dims.ensures, subst (λ (d : List ℕ). Lengths d) (sym c.zoom_dims.ensures) (ready (goal.at.zoom_axes-a-requires c).In_ok-zoom_verdict).1) }
 
 pub write-requires : goal.write-requires
 write-requires c =
     let a = c.args in
-    subst (λ (x : Axes). Passes a.r x (x.x.out * (x.y.out * x.z.out)) (length a.input.now) (length a.output.now) (length a.coverage.now) (length a.work.now)) (sym c.zoom_axes-a.ensures) (passes (goal.at.write-requires c).In-Passed)
+    subst (λ (x : Axes). Passes a.r x (x.x.out * (x.y.out * x.z.out)) (length a.input.now) (length a.output.now) (length a.coverage.now) (length a.work.now)) (sym c.zoom_axes-a.ensures) (passes (goal.at.write-requires c).In_ok-zoom_verdict)
 
-pub returns-in-Passed : goal.returns-in-Passed
+pub returns : goal.returns
 unfolding zoom_call
-returns-in-Passed c =
+returns c =
     let a = c.args in
     let axes = c.zoom_axes-a in
-    call_passed a.r a.input.now a.output.now a.coverage.now a.work.now axes.result (zoom_axes a.r) (cleared (goal.at.returns-in-Passed c).In-Passed) axes.ensures c.write.ensures
+    call_passed a.r a.input.now a.output.now a.coverage.now a.work.now axes.result (zoom_axes a.r) (cleared (goal.at.returns c).In_ok-zoom_verdict) axes.ensures c.write.ensures
 
-pub returns-in-Refused : goal.returns-in-Refused
+pub returns-in_err-zoom_verdict : goal.returns-in_err-zoom_verdict
 unfolding zoom_call
-returns-in-Refused c =
+returns-in_err-zoom_verdict c =
     let a = c.args in
-    call_refused a.r a.input.now a.output.now a.coverage.now a.work.now (zoom_axes a.r) c.in-Refused.why (sym c.zoom_verdict.ensures ∙ c.in-Refused.is)
+    rw (passed_up _ c.from_residual.ensures.1) (call_refused a.r a.input.now a.output.now a.coverage.now a.work.now (zoom_axes a.r) _ (sym c.zoom_verdict.ensures ∙ c.in_err-zoom_verdict.was))

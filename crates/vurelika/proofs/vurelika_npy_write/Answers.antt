@@ -3,4 +3,4 @@ use Rattle.vurelika.proofs.Doors.{npy_answered}
 use Rattle.vurelika.proofs.vurelika_npy_write.Goals as goal
 
 pub returns : goal.returns
-returns c = npy_answered c.write.ensures c.number_by.ensures
+returns c = npy_answered c.write.ensures c.number_in.ensures

@@ -9,7 +9,7 @@ pub returns-then-is_mode : goal.returns-then-is_mode
 unfolding of_bits of_int
 returns-then-is_mode c =
     let a = c.args in
-    point_answers (shift_pointing a.length a.shift a.order a.index) a.prefilter a.mode a.coordinate.now a.neighbours.now a.weights.now (sym c.is_mode.ensures ∙ c.if-is_mode.true) c.mode_of.ensures c.shift_point.ensures c.number_by.ensures
+    point_answers (shift_pointing a.length a.shift a.order a.index) a.prefilter a.mode a.coordinate.now a.neighbours.now a.weights.now (sym c.is_mode.ensures ∙ c.if-is_mode.true) c.mode_of.ensures c.shift_point.ensures c.number_in.ensures
 
 pub returns-else-is_mode : goal.returns-else-is_mode
 returns-else-is_mode c = let a = c.args in point_unknown (shift_pointing a.length a.shift a.order a.index) a.prefilter a.mode a.coordinate.now a.neighbours.now a.weights.now (sym c.is_mode.ensures ∙ c.if-is_mode.false)

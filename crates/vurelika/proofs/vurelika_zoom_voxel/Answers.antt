@@ -10,7 +10,7 @@ use Rattle.vurelika.proofs.vurelika_zoom_voxel.Goals as goal
 pub returns-then-is_mode : goal.returns-then-is_mode
 returns-then-is_mode c =
     let a = c.args in
-    voxel_answers (λ (r : Request). zoom_voxel_call r a.input.now a.work.now (a.x ∷ a.y ∷ a.z ∷ []) a.value.now a.code.now) a.mode (request_of a.d0 a.d1 a.d2 a.f0 a.f1 a.f2 a.order a.prefilter a.mode a.fill) a.value.now a.code.now (sym c.is_mode.ensures ∙ c.if-is_mode.true) c.request_of-r.ensures c.zoom_voxel.ensures c.number_by.ensures
+    voxel_answers (λ (r : Request). zoom_voxel_call r a.input.now a.work.now (a.x ∷ a.y ∷ a.z ∷ []) a.value.now a.code.now) a.mode (request_of a.d0 a.d1 a.d2 a.f0 a.f1 a.f2 a.order a.prefilter a.mode a.fill) a.value.now a.code.now (sym c.is_mode.ensures ∙ c.if-is_mode.true) c.request_of-r.ensures c.zoom_voxel.ensures c.number_in.ensures
 
 pub returns-else-is_mode : goal.returns-else-is_mode
 returns-else-is_mode c = voxel_unknown _ _ _ _ (sym c.is_mode.ensures ∙ c.if-is_mode.false)

@@ -6,8 +6,6 @@ use lib.Dec.{ltb}
 use lib.ListN.{length}
 use Rattle.prefilter.specs.Volume.{count_of}
 use Rattle.refusal.specs.declared.Refusal.TheVariants.{Count, Buffer, Value, Beside}
-use Rattle.refusal.specs.declared.Verdict.{Verdict}
-use Rattle.refusal.specs.declared.Verdict.TheVariants.{Passed}
 use Rattle.request.specs.Sizes.{needed}
 use Rattle.request.specs.Conditions.{too_large, wrong, beside_any}
 use Rattle.refusal.specs.Refusals.{when, first, places_of, resample_checks}
@@ -15,6 +13,8 @@ use Rattle.refusal.proofs.Firsts.{skip, stop}
 use Rattle.request.proofs.Requests.{small}
 use Rattle.refusal.proofs.verdicts.resample_verdict.Goals.{After-some_too_large, After-some_wrong, Else-some_too_large, Else-wild_any}
 use Rattle.refusal.proofs.verdicts.resample_verdict.Goals as goal
+use Rattle.std.specs.Prelude.{Result, Ok, ⊤}
+use Rattle.refusal.specs.declared.Refusal.{Refusal}
 
 pub count_of-count-requires : goal.count_of-count-requires
 count_of-count-requires c = small c.args.r.dims c.requires.lengths
@@ -42,11 +42,11 @@ pub returns-then-wild_any : goal.returns-then-wild_any
 returns-then-wild_any c = skip Count (counts (goal.at.returns-then-wild_any c).Else-some_too_large) (skip Buffer (sym (wrongs (goal.at.returns-then-wild_any c).After-some_wrong) ∙ c.if-some_wrong.false) (stop Value _ (sym c.wild_any.ensures ∙ c.if-wild_any.true)))
 
 -- refusals 6 to 8 do not apply
-on : (c : Else-wild_any) (v : Verdict) → let a = c.args in v ≡ first (when Beside (beside_any a.r a.a) ∷ []) → v ≡ first (resample_checks a.asked a.r a.input.now a.output a.coverage a.work a.out a.a)
+on : (c : Else-wild_any) (v : Result ⊤ Refusal) → let a = c.args in v ≡ first (when Beside (beside_any a.r a.a) ∷ []) → v ≡ first (resample_checks a.asked a.r a.input.now a.output a.coverage a.work a.out a.a)
 on c v h = skip Count (sym (c.some_too_large.ensures ∙ simp (c.needed-need.ensures, c.count_of-wanted.ensures, c.count_of-count.ensures)) ∙ c.if-some_too_large.false) (skip Buffer (sym (c.some_wrong.ensures ∙ simp (c.places_of-places.ensures, c.needed-need.ensures, c.count_of-wanted.ensures, c.count_of-count.ensures)) ∙ c.if-some_wrong.false) (skip Value (sym c.wild_any.ensures ∙ c.if-wild_any.false) h))
 
 pub returns-then-beside_any : goal.returns-then-beside_any
-returns-then-beside_any c = on (goal.at.returns-then-beside_any c).Else-wild_any _ (stop Beside Passed (sym c.beside_any.ensures ∙ c.if-beside_any.true))
+returns-then-beside_any c = on (goal.at.returns-then-beside_any c).Else-wild_any _ (stop Beside (Ok tt) (sym c.beside_any.ensures ∙ c.if-beside_any.true))
 
 pub returns : goal.returns
 returns c = on (goal.at.returns c).Else-wild_any _ (skip Beside (sym c.beside_any.ensures ∙ c.if-beside_any.false) refl)
