@@ -58,7 +58,7 @@ fn lanes_of(along: usize, n: usize) -> [Lane; 4]
 }
 
 // Two lanes of numbers fill the four by turns. The last lane's answers are the case's last words.
-fn lanes_along(r: &mut Replay, file: Words, case: Words, along: usize, mode: BorderMode)
+fn lanes_along<'a>(r: &mut Replay<'a>, file: Words, case: Words<'a>, along: usize, mode: BorderMode)
     requires { along ≤ 2 }
 {
     let n = case.whole(0);
@@ -66,15 +66,17 @@ fn lanes_along(r: &mut Replay, file: Words, case: Words, along: usize, mode: Bor
         return r.refuse();
     }
     let lanes = lanes_of(along, n);
+    let numbers = [file.pool(case.whole(3)), file.pool(case.whole(4))];
+    let answers = [case.after(5), case.after(5 + n)];
     let mut volume = [0.0; 1024];
     for (k, lane) in lanes.iter().enumerate() {
-        lane.put(&mut volume, file.pool(case.whole(3 + k % 2)));
+        lane.put(&mut volume, numbers[k % 2]);
     }
     let mut d = [2; 3];
     d[along] = n;
     filter(&mut volume, d, along, case.whole(1), mode);
     for (k, lane) in lanes.iter().enumerate() {
-        r.rest = case.after(5 + k % 2 * n);
+        r.rest = answers[k % 2];
         lane.expect(&volume, r);
     }
 }
@@ -90,7 +92,7 @@ pub fn lane_case(r: &mut Replay, file: Words) {
     });
 }
 
-fn volume_in_mode(r: &mut Replay, file: Words, case: Words, mode: BorderMode) {
+fn volume_in_mode<'a>(r: &mut Replay<'a>, file: Words, case: Words<'a>, mode: BorderMode) {
     let d = [case.whole(0), case.whole(1), case.whole(2)];
     let n = count_of(d).unwrap_or(0);
     let mut room = [0.0; 1024];

@@ -1,7 +1,7 @@
 // The Rust's border modes, by the numbers of the file.
 use border::BorderMode;
 
-const MODES: [BorderMode; 5] = [
+pub const MODES: [BorderMode; 5] = [
     BorderMode::Constant(-3.5),
     BorderMode::Mirror,
     BorderMode::Nearest,
@@ -14,15 +14,7 @@ pub fn mode_of(number: usize) -> BorderMode {
     MODES[number.min(4)]
 }
 
-pub fn each_mode<F: FnMut(BorderMode)>(mut go: F)
-    requires { F.IsAlwaysCallable go }
-{
-    for mode in MODES {
-        go(mode);
-    }
-}
-
-// Those of a set, where mode k counts 2^k.
+// Goes through those of a set, where mode k counts 2^k.
 pub fn each_of<F: FnMut(BorderMode)>(set: usize, mut go: F)
     requires { F.IsAlwaysCallable go }
 {

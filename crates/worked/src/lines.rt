@@ -40,7 +40,7 @@ impl<'a, R: Print> Lines<'a, R> {
         println!(self.rt; "")
     }
 
-    // The line of a shift or a zoom of up to 16 voxels, whose last axis comes out `lane` long; the
+    // The line of a shift or a zoom of 16 voxels, whose last axis comes out `lane` long; answers the
     // volume that comes out.
     fn resampled<const PLACES: usize, F>(
         &mut self,
