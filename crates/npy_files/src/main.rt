@@ -78,7 +78,7 @@ fn say_maker(rt: &impl Print, file: Words, maker: Maker, name: &str) -> io::Resu
 fn main(rt: HostRuntime) -> io::Result<()> {
     let mut room = [0u64; 65536];
     let file = load(&rt, &mut room);
-    let mut records = Records::new(file);
+    let records = Records::new(file);
     println!(rt; "records: {}", records.left)?;
     say_maker(&rt, file, Maker::NumPy, "written by NumPy")?;
     say_maker(&rt, file, Maker::Hand, "spelled by hand")?;
@@ -90,6 +90,5 @@ fn main(rt: HostRuntime) -> io::Result<()> {
     )?;
     replay_line(&rt, file, "read", &expect_read)?;
     replay_line(&rt, file, "write", &expect_write)?;
-    for _ in &mut records {}
-    say_end(&rt, records.rest)
+    say_end(&rt, records.end())
 }

@@ -104,7 +104,7 @@ impl<'a> Record<'a> {
 #[derive(Clone, Copy)]
 pub struct Records<'a> {
     pub left: usize,
-    pub rest: Words<'a>,
+    rest: Words<'a>,
 }
 
 impl<'a> Records<'a> {
@@ -114,6 +114,12 @@ impl<'a> Records<'a> {
             left: file.whole(0).min(file.len()),
             rest: file.after(1),
         }
+    }
+
+    // What comes behind the last of them.
+    pub fn end(mut self) -> Words<'a> {
+        for _ in &mut self {}
+        self.rest
     }
 }
 

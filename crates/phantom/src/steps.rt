@@ -1,5 +1,5 @@
 // The whole shifts that are run, and where they take the voxels, by whole numbers alone.
-ghost use Rattle.std.specs.Prelude.{◌≤◌};
+ghost use Rattle.std.specs.Prelude.{◌<◌, ◌≤◌, IfSome};
 
 use std::num::nearest_usize_to_f64;
 
@@ -38,11 +38,11 @@ impl Step {
     }
 
     // The index less the shift, if the axis has it.
-    fn source(self, index: usize, length: usize) -> Option<usize> {
-        index
-            .checked_add(self.down)?
-            .checked_sub(self.up)
-            .filter(|source| *source < length)
+    fn source(self, index: usize, length: usize) -> Option<usize>
+        ensures { IfSome result (λ source. source < length) }
+    {
+        let source = index.checked_add(self.down)?.checked_sub(self.up)?;
+        if source < length { Some(source) } else { None }
     }
 
     // How many indices of an axis stay inside.
