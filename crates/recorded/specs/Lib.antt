@@ -1,2 +1,3 @@
--- The code's own bookkeeping. No promise speaks of it.
+-- Which entry a word asks for, and the code's own bookkeeping.
 pub mod Bookkeeping
+pub mod Entries
