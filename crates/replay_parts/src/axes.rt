@@ -7,7 +7,7 @@ use crate::modes::{MODES, mode_of};
 use answer_file::replay::Replay;
 use answer_file::words::Words;
 use axis::coordinate::{Axis, float_of, output_length, shift_axis, zoom_axis};
-use axis::point::{Mark, Point, point_at};
+use axis::point::{Point, point_at};
 use axis::splines::build_splines;
 use border::{BorderMode, map_coordinates};
 use limits::LONGEST;
@@ -52,21 +52,12 @@ pub fn weights_case(r: &mut Replay) {
     }
 }
 
-// Its number in the file.
-fn number_of(mark: Mark) -> u64 {
-    match mark {
-        Mark::Reads => 0,
-        Mark::Dropped => 1,
-        Mark::Beside => 2,
-    }
-}
-
-// A mark; after mark 0 weights and neighbours, `count` of each.
+// A mark, numbered as in the enum; after mark 0 weights and neighbours, `count` of each.
 fn expect_record(r: &mut Replay, t: Point, count: usize)
     requires { count ≤ 6 }
 {
     let is_kept = r.rest.word(0) == 0;
-    r.expect_whole(number_of(t.mark));
+    r.expect_whole(t.mark as u64);
     if is_kept {
         r.expect_floats(&t.weight[..count]);
         for neighbour in &t.at[..count] {

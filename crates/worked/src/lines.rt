@@ -19,10 +19,6 @@ fn is_blank(buffer: &[f64]) -> bool {
     buffer.iter().all(|x| f64_to_bits_with_nan(*x) == f64_to_bits_with_nan(BLANK))
 }
 
-fn has_no_code(coverage: &[u8]) -> bool {
-    coverage.iter().all(|code| *code == NO_CODE)
-}
-
 // The lines written, and their number.
 #[derive(Drop)]
 pub struct Lines<'a, R> {
@@ -64,7 +60,9 @@ impl<'a, R: Print> Lines<'a, R> {
         match answer {
             Ok(_) => print_lanes(rt, &output, &coverage, lane)?,
             Err(why) => {
-                let untouched = is_blank(&output) && is_blank(&work) && has_no_code(&coverage);
+                let untouched = is_blank(&output)
+                    && is_blank(&work)
+                    && coverage.iter().all(|code| *code == NO_CODE);
                 print!(rt; "{}", Refused { why, untouched })?;
             }
         }
