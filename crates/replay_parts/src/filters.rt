@@ -92,6 +92,7 @@ pub fn lane_case(r: &mut Replay, file: Words) {
     });
 }
 
+// A volume with an axis too long or too short has no voxel that is compared.
 fn volume_in_mode<'a>(r: &mut Replay<'a>, file: Words, case: Words<'a>, mode: BorderMode) {
     let d = [case.whole(0), case.whole(1), case.whole(2)];
     let n = count_of(d).unwrap_or(0);

@@ -56,7 +56,8 @@ fn expect_runs(r: &mut Replay, padded: &[f64], runs: usize) {
     }
 }
 
-// Three lengths, where in the pool the volume starts, how many runs, and the padded volume in runs.
+// Three lengths, where in the pool the volume starts, how many runs, and the padded volume in runs;
+// an axis too long or too short leaves it all 0.0.
 pub fn pad_case(r: &mut Replay, file: Words) {
     let case = r.rest;
     let d = [case.whole(0), case.whole(1), case.whole(2)];
