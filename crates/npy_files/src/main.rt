@@ -7,13 +7,12 @@ mod compare;
 mod records;
 
 use answer_file::load::load;
-use answer_file::print::{say, say_compared, say_end, say_whole};
-use answer_file::replay::{Replay, moved_to, refused};
+use answer_file::print::say_end;
+use answer_file::replay::Replay;
+use answer_file::words::Words;
 use compare::{NO_VOXEL, expect_dims, expect_read, expect_write};
-use records::{
-    after_record, file_length, first_record, is_in_file, number_of_records, places_lent, put_file,
-    records_for,
-};
+use records::{Maker, Record, Records};
+use refusal::Refusal;
 use std::io;
 
 // The places of the buffers: of a file, and of a volume.
@@ -21,106 +20,75 @@ const FILE_ROOM: usize = 10240;
 
 const VOLUME_ROOM: usize = 64;
 
-// The file's bytes are put into `file`.
-fn replay_file(
-    words: &[u64],
-    r: Replay,
-    kind: usize,
-    file: &mut [u8],
-    volume: &mut [u64],
-) -> Replay {
-    let at = r.at;
-    put_file(file, words, at);
-    match kind {
-        0 => expect_dims(words, r, at, file),
-        1 => expect_read(words, r, at, file, volume),
-        _ => expect_write(words, r, at, file, volume),
+// A record that is cut off or larger than the buffers counts as a difference.
+fn replay_record<F: Fn(&mut Replay<'_>, Record<'_>, &[u8], &mut [u64])>(
+    r: &mut Replay,
+    record: Record,
+    compare: &F,
+)
+    requires { F.IsAlwaysCallable compare.now }
+{
+    let n = record.file_length();
+    let places = record.places_lent();
+    if !record.is_whole() || n > FILE_ROOM || places > VOLUME_ROOM {
+        return r.refuse();
     }
+    let mut file = [0u8; FILE_ROOM];
+    let mut volume = [NO_VOXEL; VOLUME_ROOM];
+    record.put_file(&mut file[..n]);
+    compare(r, record, &file[..n], &mut volume[..places]);
 }
 
-// A record that is larger than the buffers counts as a difference.
-fn replay_record(words: &[u64], r: Replay, kind: usize) -> Replay {
-    let at = r.at;
-    let n = file_length(words, at);
-    let places = places_lent(words, at);
-    if n <= FILE_ROOM {
-        if places <= VOLUME_ROOM {
-            let mut file = [0u8; FILE_ROOM];
-            let mut volume = [NO_VOXEL; VOLUME_ROOM];
-            return replay_file(words, r, kind, &mut file[..n], &mut volume[..places]);
-        }
+// Writes the line of one function, by which `compare` goes.
+fn replay_line<F: Fn(&mut Replay<'_>, Record<'_>, &[u8], &mut [u64])>(
+    rt: &impl Print,
+    file: Words,
+    name: &str,
+    compare: &F,
+) -> io::Result<()>
+    requires { F.IsAlwaysCallable compare.now }
+{
+    let mut r = Replay::new(file);
+    for record in Records::new(file) {
+        replay_record(&mut r, record, compare);
     }
-    refused(r)
+    println!(rt; "{name}: compared {} differ {}", r.compared, r.differ)
 }
 
-// The next record. One that is cut off counts as a difference.
-fn replay_next(words: &[u64], r: Replay, kind: usize) -> Replay {
-    let at = r.at;
-    let mut now = refused(r);
-    if is_in_file(words, at) {
-        now = replay_record(words, r, kind);
+// How many records are of this maker and have this answer.
+fn records_for(file: Words, maker: Maker, answer: Result<(), Refusal>) -> usize {
+    Records::new(file)
+        .filter(|record| record.maker() == Some(maker) && record.has_answer(answer))
+        .count()
+}
+
+fn say_maker(rt: &impl Print, file: Words, maker: Maker, name: &str) -> io::Result<()> {
+    print!(rt; "{name}: answers 0 3 7 10:")?;
+    for answer in [
+        Ok(()),
+        Err(Refusal::Length),
+        Err(Refusal::Buffer),
+        Err(Refusal::NotNpy),
+    ] {
+        print!(rt; " {}", records_for(file, maker, answer))?;
     }
-    moved_to(now, after_record(words, at))
-}
-
-fn replay_kind(words: &[u64], kind: usize) -> Replay {
-    let records = number_of_records(words);
-    let mut r = Replay {
-        at: first_record(words),
-        compared: 0,
-        differ: 0,
-    };
-    let mut i = 0;
-    while i < records {
-        r = replay_next(words, r, kind);
-        i += 1;
-    }
-    r
-}
-
-fn say_records(rt: &impl Print, words: &[u64]) -> io::Result<()> {
-    say(rt, b"records: ")?;
-    say_whole(rt, number_of_records(words) as u64)?;
-    say(rt, b"\n")
-}
-
-fn say_answer(rt: &impl Print, words: &[u64], maker: u64, answer: u64) -> io::Result<()> {
-    say(rt, b" ")?;
-    say_whole(rt, records_for(words, maker, answer))
-}
-
-// Writes one line of recorded answers.
-fn say_maker(rt: &impl Print, words: &[u64], maker: u64, name: &[u8]) -> io::Result<()> {
-    say(rt, name)?;
-    say(rt, b": answers 0 3 7 10:")?;
-    say_answer(rt, words, maker, 0)?;
-    say_answer(rt, words, maker, 3)?;
-    say_answer(rt, words, maker, 7)?;
-    say_answer(rt, words, maker, 10)?;
-    say(rt, b"\n")
-}
-
-// Writes one line, and answers where the records end.
-fn replay_line(rt: &impl Print, words: &[u64], kind: usize, name: &[u8]) -> io::Result<usize> {
-    let r = replay_kind(words, kind);
-    say(rt, name)?;
-    say(rt, b": compared ")?;
-    say_compared(rt, r, b" differ ")?;
-    Ok(r.at)
-}
-
-fn replay_all(rt: &impl Print, words: &[u64]) -> io::Result<()> {
-    say_records(rt, words)?;
-    say_maker(rt, words, 1, b"written by NumPy")?;
-    say_maker(rt, words, 0, b"spelled by hand")?;
-    replay_line(rt, words, 0, b"dims")?;
-    replay_line(rt, words, 1, b"read")?;
-    let end = replay_line(rt, words, 2, b"write")?;
-    say_end(rt, words, end)
+    println!(rt; "")
 }
 
 fn main(rt: HostRuntime) -> io::Result<()> {
-    let mut words = [0u64; 65536];
-    let n = load(&rt, &mut words);
-    replay_all(&rt, &words[..n])
+    let mut room = [0u64; 65536];
+    let file = load(&rt, &mut room);
+    let records = Records::new(file);
+    println!(rt; "records: {}", records.left)?;
+    say_maker(&rt, file, Maker::NumPy, "written by NumPy")?;
+    say_maker(&rt, file, Maker::Hand, "spelled by hand")?;
+    replay_line(
+        &rt,
+        file,
+        "dims",
+        &|r, record, bytes, _| expect_dims(r, record, bytes),
+    )?;
+    replay_line(&rt, file, "read", &expect_read)?;
+    replay_line(&rt, file, "write", &expect_write)?;
+    say_end(&rt, records.end())
 }

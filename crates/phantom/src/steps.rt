@@ -1,5 +1,7 @@
 // The whole shifts that are run, and where they take the voxels, by whole numbers alone.
-ghost use Rattle.std.specs.Prelude.{◌≤◌};
+ghost use Rattle.std.specs.Prelude.{◌<◌, ◌≤◌, IfSome};
+
+use std::num::nearest_usize_to_f64;
 
 // The volume is 3 by 4 by 5.
 pub const VOXELS: usize = 60;
@@ -10,13 +12,13 @@ pub const NEAR: usize = 315;
 pub const ALL: usize = 339;
 
 // A shift along one axis: `up` less `down`, so that neither has a sign.
-#[derive(Clone, Copy)]
+#[derive(Clone, Copy, Default)]
 struct Step {
     up: usize,
     down: usize,
 }
 
-#[derive(Clone, Copy)]
+#[derive(Clone, Copy, Default)]
 pub struct Steps {
     x: Step,
     y: Step,
@@ -32,40 +34,28 @@ impl Step {
     }
 
     fn number(self) -> f64 {
-        std::num::nearest_u64_to_f64(self.up as u64)
-            - std::num::nearest_u64_to_f64(self.down as u64)
+        nearest_usize_to_f64(self.up) - nearest_usize_to_f64(self.down)
     }
 
-    // The index less the shift. Below 0 it wraps, and is then beyond every length.
-    fn source(self, index: usize) -> usize {
-        std::num::wrapping_sub_usize(std::num::wrapping_add_usize(index, self.down), self.up)
+    // The index less the shift, if the axis has it.
+    fn source(self, index: usize, length: usize) -> Option<usize>
+        ensures { IfSome result (λ source. source < length) }
+    {
+        let source = index.checked_add(self.down)?.checked_sub(self.up)?;
+        if source < length { Some(source) } else { None }
     }
 
     // How many indices of an axis stay inside.
     fn staying(self, length: usize) -> usize
         ensures { result ≤ length }
     {
-        let size = distance(self.up, self.down);
-        if size < length {
-            return length - size;
-        }
-        0
+        length.saturating_sub(self.up.abs_diff(self.down))
     }
-}
-
-fn distance(a: usize, b: usize) -> usize {
-    if a < b {
-        return b - a;
-    }
-    a - b
 }
 
 impl Steps {
     pub fn numbered(n: usize) -> Steps {
-        if n < NEAR {
-            return near(n);
-        }
-        far(n - NEAR)
+        if n < NEAR { near(n) } else { far(n - NEAR) }
     }
 
     pub fn opposite(self) -> Steps {
@@ -80,19 +70,12 @@ impl Steps {
         [self.x.number(), self.y.number(), self.z.number()]
     }
 
-    // The place of the voxel that is taken to `place`, or VOXELS if there is none.
-    pub fn source(self, place: usize) -> usize {
-        let x = self.x.source(place / 20);
-        let y = self.y.source(place / 5 % 4);
-        let z = self.z.source(place % 5);
-        if x < 3 {
-            if y < 4 {
-                if z < 5 {
-                    return x * 20 + y * 5 + z;
-                }
-            }
-        }
-        VOXELS
+    // The place of the voxel that is taken to `place`.
+    pub fn source(self, place: usize) -> Option<usize> {
+        let x = self.x.source(place / 20, 3)?;
+        let y = self.y.source(place / 5 % 4, 4)?;
+        let z = self.z.source(place % 5, 5)?;
+        Some(x * 20 + y * 5 + z)
     }
 
     // How many voxels stay inside.
@@ -127,31 +110,25 @@ fn far_step(n: usize, length: usize) -> Step {
         _ => 1048575,
     };
     let up = Step { up: size, down: 0 };
-    if n % 2 == 0 {
-        return up;
-    }
-    up.opposite()
+    if n % 2 == 0 { up } else { up.opposite() }
 }
 
 // One axis far, the other two not at all: 3 axes by 8 steps.
 fn far(n: usize) -> Steps {
     let step = n % 8;
-    let still = Step { up: 0, down: 0 };
+    let still = Steps::default();
     match n / 8 {
         0 => Steps {
             x: far_step(step, 3),
-            y: still,
-            z: still,
+            ..still
         },
         1 => Steps {
-            x: still,
             y: far_step(step, 4),
-            z: still,
+            ..still
         },
         _ => Steps {
-            x: still,
-            y: still,
             z: far_step(step, 5),
+            ..still
         },
     }
 }

@@ -1,34 +1,27 @@
 // The phantom, and what a shift and its opposite have to make of it.
 use crate::steps::{Steps, VOXELS};
+use std::array;
+use std::num::nearest_usize_to_f64;
 
 // No voxel of the phantom is the fill.
 pub const FILL: f64 = -1.0;
 
 fn number_at(place: usize) -> f64 {
-    let size = std::num::nearest_u64_to_f64(place as u64);
-    if place % 2 == 0 {
-        return -size;
-    }
-    size
+    let size = nearest_usize_to_f64(place);
+    if place % 2 == 0 { -size } else { size }
 }
 
 // Each voxel has a number of its own: -0.0, 1, -2, 3, -4 and so on.
 pub fn phantom() -> [f64; VOXELS] {
-    let mut values = [0.0; VOXELS];
-    let mut place = 0;
-    while place < VOXELS {
-        values[place] = number_at(place);
-        place += 1;
-    }
-    values
+    array::from_fn(number_at)
 }
 
 // Whether a voxel is, as a number, the one at `source`, with code 0; or the fill, with code 1.
-fn is_moved(value: f64, code: u8, before: &[f64; VOXELS], source: usize) -> bool {
-    if source < VOXELS {
-        return code == 0 && value == before[source];
+fn is_moved(value: f64, code: u8, before: &[f64], source: Option<usize>) -> bool {
+    match source.and_then(|place| before.get(place)) {
+        Some(was) => code == 0 && value == *was,
+        None => code == 1 && value == FILL,
     }
-    code == 1 && value == FILL
 }
 
 // How many voxels are not what the shift has to make of them.
@@ -37,35 +30,26 @@ pub fn moved_wrong(
     after: &[f64; VOXELS],
     codes: &[u8; VOXELS],
     steps: Steps,
-) -> u64 {
-    let mut wrong = 0;
-    let mut place = 0;
-    while place < VOXELS {
-        if !is_moved(after[place], codes[place], before, steps.source(place)) {
-            wrong = std::num::wrapping_add_u64(wrong, 1);
-        }
-        place += 1;
-    }
-    wrong
+) -> usize {
+    after
+        .iter()
+        .zip(codes)
+        .enumerate()
+        .filter(|&(place, (value, code))| !is_moved(*value, *code, before, steps.source(place)))
+        .count()
 }
 
 // Whether a voxel is, as a number, what it was, if it had stayed inside; else the fill.
-fn is_returned(value: f64, was: f64, place_between: usize) -> bool {
-    if place_between < VOXELS {
-        return value == was;
-    }
-    value == FILL
+fn is_returned(value: f64, was: f64, between: Option<usize>) -> bool {
+    value == if between.is_some() { was } else { FILL }
 }
 
 // How many voxels are not what the shift, and `back` after it, have to make of them.
-pub fn returned_wrong(before: &[f64; VOXELS], after: &[f64; VOXELS], back: Steps) -> u64 {
-    let mut wrong = 0;
-    let mut place = 0;
-    while place < VOXELS {
-        if !is_returned(after[place], before[place], back.source(place)) {
-            wrong = std::num::wrapping_add_u64(wrong, 1);
-        }
-        place += 1;
-    }
-    wrong
+pub fn returned_wrong(before: &[f64; VOXELS], after: &[f64; VOXELS], back: Steps) -> usize {
+    after
+        .iter()
+        .zip(before)
+        .enumerate()
+        .filter(|&(place, (value, was))| !is_returned(*value, *was, back.source(place)))
+        .count()
 }

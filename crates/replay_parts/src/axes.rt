@@ -1,209 +1,124 @@
 // The answers of one axis.
-ghost use Rattle.std.specs.Prelude.{◌≤◌};
+ghost use Rattle.std.specs.Prelude.{◌≤◌, IfSome};
 ghost use Rattle.limits.specs.Limits.{longest};
 ghost use Rattle.replay_parts.specs.Bookkeeping.{Reachable};
 
-use crate::modes::mode_of;
-use answer_file::replay::{Replay, expect_float, expect_whole, refused, skip};
-use answer_file::words::{float_at, whole_at, word_at};
+use crate::modes::{MODES, mode_of};
+use answer_file::replay::Replay;
+use answer_file::words::Words;
 use axis::coordinate::{Axis, float_of, output_length, shift_axis, zoom_axis};
-use axis::point::{Mark, Point, point_at};
+use axis::point::{Point, point_at};
 use axis::splines::build_splines;
 use border::{BorderMode, map_coordinates};
 use limits::LONGEST;
 
 // A number, its floor, and the nearest whole number.
-pub fn rounding_case(words: &[u64], r: Replay) -> Replay {
-    let at = r.at;
-    let x = float_at(words, at, 0);
-    let floored = expect_float(words, skip(words, r, 1), exact::floor(x));
-    expect_float(words, floored, exact::round_ties_even(x))
+pub fn rounding_case(r: &mut Replay) {
+    let x = r.rest.float(0);
+    r.skip(1);
+    r.expect_float(exact::floor(x));
+    r.expect_float(exact::round_ties_even(x));
 }
 
 // A length, a factor, and the output length.
-pub fn length_case(words: &[u64], r: Replay) -> Replay {
-    let at = r.at;
-    let length = whole_at(words, at, 0);
-    let factor = float_at(words, at, 1);
-    if length <= LONGEST {
-        if factor > 0.0 {
-            if factor <= 4096.0 {
-                let output = output_length(length, factor);
-                return expect_whole(words, skip(words, r, 2), output as u64);
-            }
-        }
+pub fn length_case(r: &mut Replay) {
+    let length = r.rest.whole(0);
+    let factor = r.rest.float(1);
+    if length <= LONGEST && factor > 0.0 && factor <= 4096.0 {
+        r.skip(2);
+        r.expect_whole(output_length(length, factor) as u64);
+    } else {
+        r.refuse();
     }
-    refused(r)
 }
 
 // A length, a coordinate, and its fold in each mode.
-pub fn fold_case(words: &[u64], r: Replay) -> Replay {
-    let at = r.at;
-    let len = float_of(whole_at(words, at, 0));
-    let x = float_at(words, at, 1);
-    let mut now = skip(words, r, 2);
-    let mut mode = 0;
-    while mode < 5 {
-        now = expect_float(words, now, map_coordinates(x, len, mode_of(mode)));
-        mode += 1;
+pub fn fold_case(r: &mut Replay) {
+    let length = float_of(r.rest.whole(0));
+    let x = r.rest.float(1);
+    r.skip(2);
+    for mode in MODES {
+        r.expect_float(map_coordinates(x, length, mode));
     }
-    now
 }
 
 // A coordinate, and its weights at orders 1 to 5.
-pub fn weights_case(words: &[u64], r: Replay) -> Replay {
-    let at = r.at;
-    let x = float_at(words, at, 0);
-    let mut now = skip(words, r, 1);
-    let mut order = 1;
-    while order <= 5 {
+pub fn weights_case(r: &mut Replay) {
+    let x = r.rest.float(0);
+    r.skip(1);
+    for order in 1..6 {
         let weight = build_splines(x, order);
-        now = expect_weights(words, now, &weight, order + 1);
-        order += 1;
+        r.expect_floats(&weight[..order + 1]);
     }
-    now
 }
 
-// The first `count` of six weights.
-fn expect_weights(words: &[u64], r: Replay, weight: &[f64; 6], count: usize) -> Replay
+// A mark, numbered as in the enum; after mark 0 weights and neighbours, `count` of each.
+fn expect_record(r: &mut Replay, t: Point, count: usize)
     requires { count ≤ 6 }
 {
-    let mut now = r;
-    let mut k = 0;
-    while k < count {
-        now = expect_float(words, now, weight[k]);
-        k += 1;
-    }
-    now
-}
-
-fn expect_neighbours(words: &[u64], r: Replay, at: &[usize; 6], count: usize) -> Replay
-    requires { count ≤ 6 }
-{
-    let mut now = r;
-    let mut k = 0;
-    while k < count {
-        now = expect_whole(words, now, at[k] as u64);
-        k += 1;
-    }
-    now
-}
-
-// Its number in the file.
-fn number_of(mark: Mark) -> u64 {
-    match mark {
-        Mark::Reads => 0,
-        Mark::Dropped => 1,
-        Mark::Beside => 2,
-    }
-}
-
-// A mark; after mark 0 weights and neighbours, `count` of each.
-fn expect_record(words: &[u64], r: Replay, t: Point, count: usize) -> Replay
-    requires { count ≤ 6 }
-{
-    let at = r.at;
-    let is_kept = word_at(words, at, 0) == 0;
-    let marked = expect_whole(words, r, number_of(t.mark));
+    let is_kept = r.rest.word(0) == 0;
+    r.expect_whole(t.mark as u64);
     if is_kept {
-        let weight = t.weight;
-        let neighbour = t.at;
-        let weighed = expect_weights(words, marked, &weight, count);
-        return expect_neighbours(words, weighed, &neighbour, count);
-    }
-    marked
-}
-
-fn expect_records(
-    words: &[u64],
-    r: Replay,
-    a: Axis,
-    order: usize,
-    mode: BorderMode,
-    first: usize,
-    end: usize,
-) -> Replay
-    requires reachable { Reachable a }
-    requires order_bound { (order ≤ 5) × (end ≤ longest) }
-{
-    let mut now = r;
-    let mut i = first;
-    while i < end {
-        now = expect_record(words, now, point_at(a, i, order, mode), order + 1);
-        i += 1;
-    }
-    now
-}
-
-// The header's other numbers: order, mode, first index and how many.
-fn records_of(words: &[u64], r: Replay, a: Axis) -> Replay
-    requires { Reachable a }
-{
-    let at = r.at;
-    let order = whole_at(words, at, 4);
-    let mode = mode_of(whole_at(words, at, 5));
-    let first = whole_at(words, at, 6);
-    let count = whole_at(words, at, 7);
-    if order <= 5 {
-        if first <= LONGEST {
-            if count <= LONGEST - first {
-                return expect_records(
-                    words,
-                    skip(words, r, 8),
-                    a,
-                    order,
-                    mode,
-                    first,
-                    first + count,
-                );
-            }
+        r.expect_floats(&t.weight[..count]);
+        for neighbour in &t.at[..count] {
+            r.expect_whole(*neighbour as u64);
         }
     }
-    refused(r)
 }
 
-fn shift_case(words: &[u64], r: Replay, length: usize, pad: usize) -> Replay
+// A shift within 2^20.
+fn shifted(length: usize, shift: f64, pad: usize) -> Option<Axis>
     requires { (2 ≤ length) × ((length ≤ longest) × (pad ≤ 12)) }
+    ensures { IfSome result (λ a. Reachable a) }
 {
-    let at = r.at;
-    let shift = float_at(words, at, 2);
-    if shift >= -1048576.0 {
-        if shift <= 1048576.0 {
-            return records_of(words, r, shift_axis(length, shift, pad));
-        }
+    if shift >= -1048576.0 && shift <= 1048576.0 {
+        return Some(shift_axis(length, shift, pad));
     }
-    refused(r)
+    None
 }
 
-fn zoom_case(words: &[u64], r: Replay, length: usize, pad: usize) -> Replay
+fn zoomed(length: usize, output: usize, pad: usize) -> Option<Axis>
     requires { (2 ≤ length) × ((length ≤ longest) × (pad ≤ 12)) }
+    ensures { IfSome result (λ a. Reachable a) }
 {
-    let at = r.at;
-    let output = whole_at(words, at, 2);
-    if output >= 2 {
-        if output <= LONGEST {
-            return records_of(words, r, zoom_axis(length, output, pad));
-        }
+    if output >= 2 && output <= LONGEST {
+        return Some(zoom_axis(length, output, pad));
     }
-    refused(r)
+    None
 }
 
-// Records of one axis. The header starts with 0 for a shift or 1 for a zoom, the length, the shift
-// or the output length, and the pad.
-pub fn axis_case(words: &[u64], r: Replay) -> Replay {
-    let at = r.at;
-    let kind = whole_at(words, at, 0);
-    let length = whole_at(words, at, 1);
-    let pad = whole_at(words, at, 3);
-    if length >= 2 {
-        if length <= LONGEST {
-            if pad <= 12 {
-                if kind == 0 {
-                    return shift_case(words, r, length, pad);
-                }
-                return zoom_case(words, r, length, pad);
-            }
-        }
+// The header starts with 0 for a shift or 1 for a zoom, the length, the shift or the output length,
+// and the pad.
+fn axis_of(case: Words) -> Option<Axis>
+    ensures { IfSome result (λ a. Reachable a) }
+{
+    let length = case.whole(1);
+    let pad = case.whole(3);
+    if length < 2 || length > LONGEST || pad > 12 {
+        return None;
     }
-    refused(r)
+    if case.whole(0) == 0 {
+        shifted(length, case.float(2), pad)
+    } else {
+        zoomed(length, case.whole(2), pad)
+    }
+}
+
+// Records of one axis. The header's other numbers: order, mode, first index and how many.
+pub fn axis_case(r: &mut Replay) {
+    let case = r.rest;
+    let Some(a) = axis_of(case) else {
+        return r.refuse();
+    };
+    let order = case.whole(4);
+    let mode = mode_of(case.whole(5));
+    let first = case.whole(6);
+    let count = case.whole(7);
+    if order > 5 || first > LONGEST || count > LONGEST - first {
+        return r.refuse();
+    }
+    r.skip(8);
+    for i in first..first + count {
+        expect_record(r, point_at(a, i, order, mode), order + 1);
+    }
 }

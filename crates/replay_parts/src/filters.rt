@@ -1,11 +1,11 @@
 // Filtered lanes and volumes.
-ghost use Rattle.std.specs.Prelude.{◌≡◌, ◌<◌, ◌≤◌, true};
+ghost use Rattle.std.specs.Prelude.{◌≡◌, ◌<◌, ◌≤◌, true, IfSome};
 ghost use Rattle.replay_parts.specs.Bookkeeping.{Counted};
 
-use crate::modes::{has_mode, mode_of};
-use answer_file::replay::{Replay, moved_to, refused};
-use answer_file::volumes::{expect_lane, put_lane};
-use answer_file::words::{after, whole_at};
+use crate::modes::each_of;
+use answer_file::replay::Replay;
+use answer_file::volumes::Lane;
+use answer_file::words::Words;
 use border::BorderMode;
 use prefilter::{filter_axis, filter_volume};
 
@@ -13,200 +13,102 @@ use prefilter::{filter_axis, filter_volume};
 fn is_short(n: usize) -> bool
     ensures { result ≡ true → (2 ≤ n) × (n ≤ 256) }
 {
-    if n < 2 {
-        return false;
-    }
-    n <= 256
+    2 <= n && n <= 256
 }
 
-// How many voxels there are; 0 where an axis is too long or too short.
-pub fn count_of(a: usize, b: usize, c: usize) -> usize
-    ensures { 0 < result → Counted a b c result }
+// How many voxels there are, unless an axis is too long or too short.
+pub fn count_of(d: [usize; 3]) -> Option<usize>
+    ensures { IfSome result (λ n. Counted d n) }
 {
-    if is_short(a) {
-        if is_short(b) {
-            if is_short(c) {
-                return a * (b * c);
-            }
-        }
+    if is_short(d[0]) && is_short(d[1]) && is_short(d[2]) {
+        return Some(d[0] * (d[1] * d[2]));
     }
-    0
+    None
 }
 
 // Filters along an axis, or along all three where `axis` is 3, if that is asked for as it may be.
-fn filter(
-    volume: &mut [f64],
-    a: usize,
-    b: usize,
-    c: usize,
-    axis: usize,
-    order: usize,
-    mode: BorderMode,
-) {
-    let n = count_of(a, b, c);
-    if n > 0 {
-        if n <= volume.len() {
-            if order >= 2 {
-                if order <= 5 {
-                    if axis <= 2 {
-                        filter_axis(&mut volume[..n], [a, b, c], axis, order, mode);
-                    } else {
-                        filter_volume(&mut volume[..n], [a, b, c], order, mode);
-                    }
-                }
-            }
-        }
+fn filter(volume: &mut [f64], d: [usize; 3], axis: usize, order: usize, mode: BorderMode) {
+    let Some(n) = count_of(d) else {
+        return;
+    };
+    if n > volume.len() || order < 2 || order > 5 {
+        return;
+    }
+    if axis <= 2 {
+        filter_axis(&mut volume[..n], d, axis, order, mode);
+    } else {
+        filter_volume(&mut volume[..n], d, order, mode);
     }
 }
 
-// A volume that is n long on one axis and 2 on the others has four lanes along that axis.
-fn length_on(axis: usize, along: usize, n: usize) -> usize {
-    if axis == along { n } else { 2 }
-}
-
-fn stride_of(along: usize) -> usize
-    ensures { result ≤ 4 }
-{
-    match along {
-        0 => 4,
-        1 => 2,
-        _ => 1,
-    }
-}
-
-fn start_of(along: usize, n: usize, lane: usize) -> usize
-    requires { (n ≤ 256) × (lane ≤ 3) }
-{
-    match along {
-        0 => lane,
-        1 => { if lane < 2 { lane } else { 2 * n + (lane - 2) } }
-        _ => match lane {
-            0 => 0,
-            1 => n,
-            2 => 2 * n,
-            _ => 3 * n,
-        },
-    }
-}
-
-// Two lanes of numbers fill the four by turns.
-fn which(lane: usize) -> usize
-    ensures { result ≤ 1 }
-{
-    lane % 2
-}
-
-fn put_lanes(volume: &mut [f64], words: &[u64], at: usize, along: usize, n: usize)
+// The four lanes along an axis of a volume that is n long there, and 2 on the other axes.
+fn lanes_of(along: usize, n: usize) -> [Lane; 4]
     requires { n ≤ 256 }
 {
-    let stride = stride_of(along);
-    let mut lane = 0;
-    while lane < 4 {
-        let pool = whole_at(words, at, 3 + which(lane));
-        put_lane(volume, start_of(along, n, lane), stride, words, pool, n);
-        lane += 1;
-    }
+    let (starts, stride) = match along {
+        0 => ([0, 1, 2, 3], 4),
+        1 => ([0, 1, 2 * n, 2 * n + 1], 2),
+        _ => ([0, n, 2 * n, 3 * n], 1),
+    };
+    starts.map(|start| Lane {
+        start,
+        stride,
+        length: n,
+    })
 }
 
-// The last lane's answers are the case's last words.
-fn expect_lanes(
-    words: &[u64],
-    r: Replay,
-    volume: &[f64],
-    at: usize,
-    along: usize,
-    n: usize,
-) -> Replay
-    requires { n ≤ 256 }
+// Two lanes of numbers fill the four by turns. The last lane's answers are the case's last words.
+fn lanes_along<'a>(r: &mut Replay<'a>, file: Words, case: Words<'a>, along: usize, mode: BorderMode)
+    requires { along ≤ 2 }
 {
-    let stride = stride_of(along);
-    let mut now = r;
-    let mut lane = 0;
-    while lane < 4 {
-        let answer = if which(lane) == 0 { 5 } else { 5 + n };
-        let from = moved_to(now, after(words, at, answer));
-        now = expect_lane(words, from, volume, start_of(along, n, lane), stride, n);
-        lane += 1;
+    let n = case.whole(0);
+    if !is_short(n) {
+        return r.refuse();
     }
-    now
-}
-
-fn lanes_along(words: &[u64], r: Replay, at: usize, along: usize, mode: BorderMode) -> Replay {
-    let n = whole_at(words, at, 0);
-    let order = whole_at(words, at, 1);
-    if is_short(n) {
-        let mut volume = [0.0; 1024];
-        put_lanes(&mut volume, words, at, along, n);
-        filter(
-            &mut volume,
-            length_on(0, along, n),
-            length_on(1, along, n),
-            length_on(2, along, n),
-            along,
-            order,
-            mode,
-        );
-        return expect_lanes(words, r, &volume, at, along, n);
+    let lanes = lanes_of(along, n);
+    let numbers = [file.pool(case.whole(3)), file.pool(case.whole(4))];
+    let answers = [case.after(5), case.after(5 + n)];
+    let mut volume = [0.0; 1024];
+    for (k, lane) in lanes.iter().enumerate() {
+        lane.put(&mut volume, numbers[k % 2]);
     }
-    refused(r)
-}
-
-fn lanes_in_mode(words: &[u64], r: Replay, at: usize, mode: usize) -> Replay {
-    if has_mode(whole_at(words, at, 2), mode) {
-        let first = lanes_along(words, r, at, 0, mode_of(mode));
-        let second = lanes_along(words, first, at, 1, mode_of(mode));
-        return lanes_along(words, second, at, 2, mode_of(mode));
+    let mut d = [2; 3];
+    d[along] = n;
+    filter(&mut volume, d, along, case.whole(1), mode);
+    for (k, lane) in lanes.iter().enumerate() {
+        r.rest = answers[k % 2];
+        lane.expect(&volume, r);
     }
-    r
 }
 
 // A length, an order, a set of modes, where in the pool two lanes start, and both lanes filtered:
 // replayed in each of the modes along each axis.
-pub fn lane_case(words: &[u64], r: Replay) -> Replay {
-    let at = r.at;
-    let mut now = r;
-    let mut mode = 0;
-    while mode < 5 {
-        now = lanes_in_mode(words, now, at, mode);
-        mode += 1;
-    }
-    now
+pub fn lane_case(r: &mut Replay, file: Words) {
+    let case = r.rest;
+    each_of(case.whole(2), |mode| {
+        for along in 0..3 {
+            lanes_along(r, file, case, along, mode);
+        }
+    });
 }
 
-fn volume_in_mode(words: &[u64], r: Replay, at: usize, mode: usize) -> Replay {
-    if has_mode(whole_at(words, at, 4), mode) {
-        let a = whole_at(words, at, 0);
-        let b = whole_at(words, at, 1);
-        let c = whole_at(words, at, 2);
-        let n = count_of(a, b, c);
-        if n <= 1024 {
-            let mut volume = [0.0; 1024];
-            put_lane(&mut volume, 0, 1, words, whole_at(words, at, 6), n);
-            filter(
-                &mut volume,
-                a,
-                b,
-                c,
-                whole_at(words, at, 5),
-                whole_at(words, at, 3),
-                mode_of(mode),
-            );
-            return expect_lane(words, moved_to(r, after(words, at, 7)), &volume, 0, 1, n);
-        }
-        return refused(r);
-    }
-    r
+// A volume with an axis too long or too short has no voxel that is compared.
+fn volume_in_mode<'a>(r: &mut Replay<'a>, file: Words, case: Words<'a>, mode: BorderMode) {
+    let d = [case.whole(0), case.whole(1), case.whole(2)];
+    let n = count_of(d).unwrap_or(0);
+    let mut room = [0.0; 1024];
+    let Some(volume) = room.get_mut(..n) else {
+        return r.refuse();
+    };
+    file.pool(case.whole(6)).put_floats(volume);
+    filter(volume, d, case.whole(5), case.whole(3), mode);
+    r.rest = case.after(7);
+    r.expect_floats(volume);
 }
 
 // Three lengths, an order, a set of modes, an axis or 3 for all, where in the pool the volume
 // starts, and the volume filtered.
-pub fn volume_case(words: &[u64], r: Replay) -> Replay {
-    let at = r.at;
-    let mut now = r;
-    let mut mode = 0;
-    while mode < 5 {
-        now = volume_in_mode(words, now, at, mode);
-        mode += 1;
-    }
-    now
+pub fn volume_case(r: &mut Replay, file: Words) {
+    let case = r.rest;
+    each_of(case.whole(4), |mode| volume_in_mode(r, file, case, mode));
 }

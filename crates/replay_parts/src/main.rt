@@ -8,77 +8,63 @@ mod modes;
 mod pads;
 
 use answer_file::load::load;
-use answer_file::print::{say, say_compared, say_end};
-use answer_file::replay::{Replay, refused};
-use answer_file::words::{after, in_pool, whole_at};
+use answer_file::print::say_end;
+use answer_file::replay::Replay;
+use answer_file::words::Words;
 use axes::{axis_case, fold_case, length_case, rounding_case, weights_case};
 use filters::{lane_case, volume_case};
 use pads::pad_case;
 use std::io;
 
-fn replay_case(words: &[u64], r: Replay, kind: usize) -> Replay {
-    match kind {
-        0 => rounding_case(words, r),
-        1 => length_case(words, r),
-        2 => fold_case(words, r),
-        3 => weights_case(words, r),
-        4 => axis_case(words, r),
-        5 => lane_case(words, r),
-        6 => volume_case(words, r),
-        _ => pad_case(words, r),
-    }
+// The file, and from which of its words on the next section stands.
+#[derive(Clone, Copy)]
+struct Sections<'a> {
+    file: Words<'a>,
+    rest: Words<'a>,
 }
 
-// A section: the number of its cases, then each of them.
-fn replay_section(words: &[u64], from: usize, kind: usize) -> Replay {
-    let cases = whole_at(words, from, 0);
-    let mut r = Replay {
-        at: after(words, from, 1),
-        compared: 0,
-        differ: 0,
-    };
-    if cases > words.len() {
-        return refused(r);
+impl<'a> Sections<'a> {
+    // They stand behind the pool.
+    fn new(file: Words<'a>) -> Sections<'a> {
+        Sections {
+            file,
+            rest: file.pool(file.whole(0)),
+        }
     }
-    let mut i = 0;
-    while i < cases {
-        r = replay_case(words, r, kind);
-        i += 1;
+
+    // A section: the number of its cases, then each of them, and the line that is written of it.
+    fn replay<F: Fn(&mut Replay<'_>, Words<'_>)>(
+        &mut self,
+        rt: &impl Print,
+        name: &str,
+        case: &F,
+    ) -> io::Result<()>
+        requires { F.IsAlwaysCallable case.now }
+    {
+        let cases = self.rest.whole(0);
+        let mut r = Replay::new(self.rest.after(1));
+        if cases > self.file.len() {
+            r.refuse();
+        } else {
+            for _ in 0..cases {
+                case(&mut r, self.file);
+            }
+        }
+        self.rest = r.rest;
+        println!(rt; "{name} {} differ {}", r.compared, r.differ)
     }
-    r
-}
-
-// Writes one line, and answers where the next section starts.
-fn replay_kind(
-    rt: &impl Print,
-    words: &[u64],
-    from: usize,
-    kind: usize,
-    name: &[u8],
-) -> io::Result<usize> {
-    let r = replay_section(words, from, kind);
-    say(rt, name)?;
-    say_compared(rt, r, b" differ ")?;
-    Ok(r.at)
-}
-
-// The sections stand behind the pool.
-fn replay_all(rt: &impl Print, words: &[u64]) -> io::Result<()> {
-    let pool = whole_at(words, 0, 0);
-    let roundings = in_pool(words, pool);
-    let lengths = replay_kind(rt, words, roundings, 0, b"roundings ")?;
-    let folds = replay_kind(rt, words, lengths, 1, b"lengths ")?;
-    let weights = replay_kind(rt, words, folds, 2, b"folds ")?;
-    let records = replay_kind(rt, words, weights, 3, b"weights ")?;
-    let lanes = replay_kind(rt, words, records, 4, b"records ")?;
-    let volumes = replay_kind(rt, words, lanes, 5, b"lanes ")?;
-    let pads = replay_kind(rt, words, volumes, 6, b"volumes ")?;
-    let end = replay_kind(rt, words, pads, 7, b"pads ")?;
-    say_end(rt, words, end)
 }
 
 fn main(rt: HostRuntime) -> io::Result<()> {
-    let mut words = [0u64; 98304];
-    let n = load(&rt, &mut words);
-    replay_all(&rt, &words[..n])
+    let mut room = [0u64; 98304];
+    let mut sections = Sections::new(load(&rt, &mut room));
+    sections.replay(&rt, "roundings", &|r, _| rounding_case(r))?;
+    sections.replay(&rt, "lengths", &|r, _| length_case(r))?;
+    sections.replay(&rt, "folds", &|r, _| fold_case(r))?;
+    sections.replay(&rt, "weights", &|r, _| weights_case(r))?;
+    sections.replay(&rt, "records", &|r, _| axis_case(r))?;
+    sections.replay(&rt, "lanes", &lane_case)?;
+    sections.replay(&rt, "volumes", &volume_case)?;
+    sections.replay(&rt, "pads", &pad_case)?;
+    say_end(&rt, sections.rest)
 }

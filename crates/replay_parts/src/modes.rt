@@ -1,20 +1,26 @@
 // The Rust's border modes, by the numbers of the file.
 use border::BorderMode;
 
+pub const MODES: [BorderMode; 5] = [
+    BorderMode::Constant(-3.5),
+    BorderMode::Mirror,
+    BorderMode::Nearest,
+    BorderMode::Reflect,
+    BorderMode::Wrap,
+];
+
+// A number that no mode has stands for the last.
 pub fn mode_of(number: usize) -> BorderMode {
-    match number {
-        0 => BorderMode::Constant(-3.5),
-        1 => BorderMode::Mirror,
-        2 => BorderMode::Nearest,
-        3 => BorderMode::Reflect,
-        _ => BorderMode::Wrap,
-    }
+    MODES[number.min(4)]
 }
 
-// Whether mode `number` is in the set, where it counts 2^number.
-pub fn has_mode(modes: usize, number: usize) -> bool {
-    if number < 5 {
-        return modes >> number & 1 == 1;
+// Goes through those of a set, where mode k counts 2^k.
+pub fn each_of<F: FnMut(BorderMode)>(set: usize, mut go: F)
+    requires { F.IsAlwaysCallable go }
+{
+    for (number, mode) in MODES.iter().enumerate() {
+        if set >> number & 1 == 1 {
+            go(*mode);
+        }
     }
-    false
 }

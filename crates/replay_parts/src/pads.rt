@@ -1,67 +1,73 @@
 // Padded volumes.
-ghost use Rattle.std.specs.Prelude.{◌≡◌, ◌*◌, ◌≤◌};
-ghost use Rattle.limits.specs.Limits.{wide_of};
+ghost use Rattle.std.specs.Prelude.{◌≡◌, ◌<◌, ◌≤◌, ℕ};
+ghost use Rattle.prefilter.specs.Volume.{length_of, count_of};
+ghost use Rattle.edge.specs.Edge.{padded_dims};
 
 use crate::filters::count_of;
-use answer_file::replay::{Replay, refused, skip};
-use answer_file::volumes::{expect_run, put_lane};
-use answer_file::words::{whole_at, word_at};
+use answer_file::replay::Replay;
+use answer_file::volumes::Lane;
+use answer_file::words::Words;
 use edge::pad;
 use limits::wide_of;
 
 // How many voxels the padded volume has.
-fn padded_count(a: usize, b: usize, c: usize) -> usize
-    requires { (a ≤ 256) × ((b ≤ 256) × (c ≤ 256)) }
-    ensures { result ≡ wide_of a * (wide_of b * wide_of c) }
+fn padded_count(d: [usize; 3]) -> usize
+    requires { (axis : ℕ) → axis < 3 → length_of axis d ≤ 256 }
+    ensures { result ≡ count_of (padded_dims d) }
 {
-    wide_of(a) * (wide_of(b) * wide_of(c))
+    wide_of(d[0]) * (wide_of(d[1]) * wide_of(d[2]))
 }
 
-// Pads, if both buffers are long enough.
-fn pad_into(to: &mut [f64], from: &[f64], a: usize, b: usize, c: usize) {
-    let n = count_of(a, b, c);
-    if n > 0 {
-        if n <= from.len() {
-            let wide = padded_count(a, b, c);
-            if wide <= to.len() {
-                pad(&mut to[..wide], &from[..n], [a, b, c]);
-            }
-        }
+// Pads a volume whose lengths are as they may be, if there is room for it.
+fn pad_into(room: &mut [f64], volume: &[f64], d: [usize; 3]) {
+    let Some(n) = count_of(d) else {
+        return;
+    };
+    let wide = padded_count(d);
+    if n <= volume.len() && wide <= room.len() {
+        pad(&mut room[..wide], &volume[..n], d);
+    }
+}
+
+// A run of voxels with the same bits; those outside the volume are 0.0.
+fn expect_run(r: &mut Replay, padded: &[f64], run: Lane, bits: u64) {
+    if run.length > padded.len() {
+        return r.refuse();
+    }
+    for k in 0..run.length {
+        r.expect_bits(run.voxel(padded, k), bits);
     }
 }
 
 // Runs, each a count and the bits.
-fn expect_runs(words: &[u64], r: Replay, padded: &[f64], runs: usize) -> Replay {
-    let mut now = r;
-    let mut from = 0;
-    let mut i = 0;
-    while i < runs {
-        let at = now.at;
-        let count = whole_at(words, at, 0);
-        now = skip(
-            words,
-            expect_run(now, padded, from, count, word_at(words, at, 1)),
-            2,
-        );
-        from = std::num::wrapping_add_usize(from, count);
-        i += 1;
+fn expect_runs(r: &mut Replay, padded: &[f64], runs: usize) {
+    let mut start = 0usize;
+    for _ in 0..runs {
+        let length = r.rest.whole(0);
+        let bits = r.rest.word(1);
+        let run = Lane {
+            start,
+            stride: 1,
+            length,
+        };
+        expect_run(r, padded, run, bits);
+        r.skip(2);
+        start = start.wrapping_add(length);
     }
-    now
 }
 
-// Three lengths, where in the pool the volume starts, how many runs, and the padded volume in runs.
-pub fn pad_case(words: &[u64], r: Replay) -> Replay {
-    let at = r.at;
-    let a = whole_at(words, at, 0);
-    let b = whole_at(words, at, 1);
-    let c = whole_at(words, at, 2);
-    let n = count_of(a, b, c);
-    if n <= 1024 {
-        let mut volume = [0.0; 1024];
-        let mut padded = [0.0; 20480];
-        put_lane(&mut volume, 0, 1, words, whole_at(words, at, 3), n);
-        pad_into(&mut padded, &volume, a, b, c);
-        return expect_runs(words, skip(words, r, 5), &padded, whole_at(words, at, 4));
-    }
-    refused(r)
+// Three lengths, where in the pool the volume starts, how many runs, and the padded volume in runs;
+// an axis too long or too short leaves it all 0.0.
+pub fn pad_case(r: &mut Replay, file: Words) {
+    let case = r.rest;
+    let d = [case.whole(0), case.whole(1), case.whole(2)];
+    let mut room = [0.0; 1024];
+    let Some(volume) = room.get_mut(..count_of(d).unwrap_or(0)) else {
+        return r.refuse();
+    };
+    file.pool(case.whole(3)).put_floats(volume);
+    let mut padded = [0.0; 20480];
+    pad_into(&mut padded, volume, d);
+    r.skip(5);
+    expect_runs(r, &padded, case.whole(4));
 }

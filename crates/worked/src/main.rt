@@ -3,13 +3,8 @@
 // numbers.
 #![tactic(auto)]
 
-ghost use Rattle.std.specs.Prelude.{◌≡◌, length};
-
-use answer_file::print::{say, say_whole};
 use border::BorderMode;
-use lines::{
-    BLANK, middle_line, shift_into, shift_line, spline_filter_line, spline_filter1d_line, zoom_line,
-};
+use lines::Lines;
 use request::Request;
 use std::io;
 
@@ -18,15 +13,11 @@ mod print;
 mod runs;
 
 // 2 by 2 by 4: each lane of the last axis is 10 20 30 40.
-fn volume() -> [f64; 16]
-    ensures { 16 ≡ length result }
-{
-    let a = 10.0;
-    let b = 20.0;
-    let c = 30.0;
-    let d = 40.0;
-    [a, b, c, d, a, b, c, d, a, b, c, d, a, b, c, d]
-}
+const VOLUME: [f64; 16] = [
+    10.0, 20.0, 30.0, 40.0, 10.0, 20.0, 30.0, 40.0, 10.0, 20.0, 30.0, 40.0, 10.0, 20.0, 30.0, 40.0,
+];
+
+const OUTSIDE: BorderMode = BorderMode::Constant(-1.0);
 
 fn ask(factors: [f64; 3], order: usize, mode: BorderMode) -> Request {
     Request {
@@ -38,6 +29,7 @@ fn ask(factors: [f64; 3], order: usize, mode: BorderMode) -> Request {
     }
 }
 
+// A shift on the last axis.
 fn along(shift: f64, order: usize, mode: BorderMode) -> Request {
     ask([0.0, 0.0, shift], order, mode)
 }
@@ -49,115 +41,80 @@ fn still(order: usize) -> Request {
         factors: [0.0, 0.0, 0.0],
         order,
         prefilter: false,
-        mode: BorderMode::Constant(-1.0),
+        mode: OUTSIDE,
     }
 }
 
-// A shift on the last axis.
-fn along_line(
-    rt: &impl Print,
-    n: u64,
-    name: &[u8],
-    shift: f64,
-    order: usize,
-    mode: BorderMode,
-    volume: &[f64],
-) -> io::Result<u64> {
-    shift_line(rt, n, name, along(shift, order, mode), volume)
+fn constant_lines(lines: &mut Lines<'_, impl Print>) -> io::Result<()> {
+    let that = lines.shift("Constant -1, 1", along(1.0, 1, OUTSIDE), &VOLUME)?;
+    lines.shift("that, then -1", along(-1.0, 1, OUTSIDE), &that)?;
+    for (name, shift, order) in [
+        ("Constant -1, -0.5", -0.5, 1),
+        ("Constant -1, 0.5, order 0", 0.5, 0),
+        ("Constant -1, -0.5, order 0", -0.5, 0),
+    ] {
+        lines.shift(name, along(shift, order, OUTSIDE), &VOLUME)?;
+    }
+    Ok(())
 }
 
-fn constant_lines(rt: &impl Print, before: u64, volume: &[f64]) -> io::Result<u64> {
-    let mode = BorderMode::Constant(-1.0);
-    let mut that = [BLANK; 16];
-    let mut back = [BLANK; 16];
-    let mut n = before;
-    n = shift_into(
-        rt,
-        n,
-        b"Constant -1, 1",
-        along(1.0, 1, mode),
-        volume,
-        &mut that,
-    )?;
-    n = shift_into(
-        rt,
-        n,
-        b"that, then -1",
-        along(-1.0, 1, mode),
-        &that,
-        &mut back,
-    )?;
-    n = along_line(rt, n, b"Constant -1, -0.5", -0.5, 1, mode, volume)?;
-    n = along_line(rt, n, b"Constant -1, 0.5, order 0", 0.5, 0, mode, volume)?;
-    along_line(rt, n, b"Constant -1, -0.5, order 0", -0.5, 0, mode, volume)
-}
-
-fn other_lines(rt: &impl Print, before: u64, volume: &[f64]) -> io::Result<u64> {
-    let nearest = BorderMode::Nearest;
+fn other_lines(lines: &mut Lines<'_, impl Print>) -> io::Result<()> {
+    lines.shift("Nearest, 2", along(2.0, 1, BorderMode::Nearest), &VOLUME)?;
+    lines.shift("Nearest, -2", along(-2.0, 1, BorderMode::Nearest), &VOLUME)?;
     let finer = ask([1.0, 1.0, 1.75], 1, BorderMode::Mirror);
+    lines.zoom("zoom 1, 1, 1.75, Mirror", finer, &VOLUME)?;
     let far = ask([8.0, 0.0, 0.0], 1, BorderMode::Reflect);
-    let mut n = before;
-    n = along_line(rt, n, b"Nearest, 2", 2.0, 1, nearest, volume)?;
-    n = along_line(rt, n, b"Nearest, -2", -2.0, 1, nearest, volume)?;
-    n = zoom_line(rt, n, b"zoom 1, 1, 1.75, Mirror", finer, volume)?;
-    shift_line(rt, n, b"Reflect, shift 8, 0, 0", far, volume)
+    lines.shift("Reflect, shift 8, 0, 0", far, &VOLUME)?;
+    Ok(())
 }
 
 // #103: where a neighbour with a weight was folded, and where none was.
-fn folded_lines(rt: &impl Print, before: u64, volume: &[f64]) -> io::Result<u64> {
-    let mut n = before;
-    n = along_line(rt, n, b"Reflect, 0.5", 0.5, 1, BorderMode::Reflect, volume)?;
-    n = along_line(rt, n, b"Mirror, 0.5", 0.5, 1, BorderMode::Mirror, volume)?;
-    n = along_line(
-        rt,
-        n,
-        b"Nearest, 0.25",
-        0.25,
-        1,
-        BorderMode::Nearest,
-        volume,
+fn folded_lines(lines: &mut Lines<'_, impl Print>) -> io::Result<()> {
+    lines.shift("Reflect, 0.5", along(0.5, 1, BorderMode::Reflect), &VOLUME)?;
+    lines.shift("Mirror, 0.5", along(0.5, 1, BorderMode::Mirror), &VOLUME)?;
+    lines.shift(
+        "Nearest, 0.25",
+        along(0.25, 1, BorderMode::Nearest),
+        &VOLUME,
     )?;
-    n = middle_line(rt, n, b"axis of 7, shift 0, order 1", still(1))?;
-    n = middle_line(rt, n, b"axis of 7, shift 0, order 2", still(2))?;
-    n = middle_line(rt, n, b"axis of 7, shift 0, order 3", still(3))?;
-    n = middle_line(rt, n, b"axis of 7, shift 0, order 4", still(4))?;
-    middle_line(rt, n, b"axis of 7, shift 0, order 5", still(5))
+    for order in 1..6 {
+        lines.middle(order, still(order))?;
+    }
+    Ok(())
 }
 
 // #104: the edge is repeated, before the scan and behind it.
-fn replicated_lines(rt: &impl Print, before: u64, volume: &[f64]) -> io::Result<u64> {
-    let mode = BorderMode::Replicate;
-    let mut n = before;
-    n = along_line(rt, n, b"Replicate, -2", -2.0, 1, mode, volume)?;
-    n = along_line(rt, n, b"Replicate, 2", 2.0, 1, mode, volume)?;
-    n = along_line(rt, n, b"Replicate, 0.5", 0.5, 1, mode, volume)?;
-    n = along_line(
-        rt,
-        n,
-        b"Replicate, -1,048,575.5",
-        -1048575.5,
-        1,
-        mode,
-        volume,
-    )?;
-    along_line(rt, n, b"Replicate, -0.5, order 0", -0.5, 0, mode, volume)
+fn replicated_lines(lines: &mut Lines<'_, impl Print>) -> io::Result<()> {
+    for (name, shift, order) in [
+        ("Replicate, -2", -2.0, 1),
+        ("Replicate, 2", 2.0, 1),
+        ("Replicate, 0.5", 0.5, 1),
+        ("Replicate, -1,048,575.5", -1048575.5, 1),
+        ("Replicate, -0.5, order 0", -0.5, 0),
+    ] {
+        lines.shift(name, along(shift, order, BorderMode::Replicate), &VOLUME)?;
+    }
+    Ok(())
 }
 
 // Not in the document, so that all four entries run: README.md says where these bits come from.
-fn filter_lines(rt: &impl Print, before: u64, volume: &[f64]) -> io::Result<u64> {
+fn filter_lines(lines: &mut Lines<'_, impl Print>) -> io::Result<()> {
     let cubic = along(0.0, 3, BorderMode::Mirror);
-    let n = spline_filter_line(rt, before, b"spline_filter, order 3, Mirror", cubic, volume)?;
-    let name = b"spline_filter1d, axis 2, order 3, Mirror";
-    spline_filter1d_line(rt, n, name, cubic, 2, volume)
+    lines.spline_filter("spline_filter, order 3, Mirror", cubic, &VOLUME)?;
+    lines.spline_filter1d(
+        "spline_filter1d, axis 2, order 3, Mirror",
+        cubic,
+        2,
+        &VOLUME,
+    )
 }
 
 fn main(rt: HostRuntime) -> io::Result<()> {
-    let volume = volume();
-    let constant = constant_lines(&rt, 0, &volume)?;
-    let resampled = other_lines(&rt, constant, &volume)?;
-    let folded = folded_lines(&rt, resampled, &volume)?;
-    let replicated = replicated_lines(&rt, folded, &volume)?;
-    let all = filter_lines(&rt, replicated, &volume)?;
-    say_whole(&rt, all)?;
-    say(&rt, b" requests\n")
+    let mut lines = Lines::new(&rt);
+    constant_lines(&mut lines)?;
+    other_lines(&mut lines)?;
+    folded_lines(&mut lines)?;
+    replicated_lines(&mut lines)?;
+    filter_lines(&mut lines)?;
+    println!(rt; "{} requests", lines.written)
 }

@@ -1,68 +1,77 @@
-// Printing. Each number of a list has a space before it.
-use answer_file::print::{say, say_whole, whole_part};
+// What is printed of a line. Each number of a list has a space before it.
 use coverage::counts::Counts;
-use std::io;
-
-fn say_count(rt: &impl Print, n: usize) -> io::Result<()> {
-    say(rt, b" ")?;
-    say_whole(rt, n as u64)
-}
-
-pub fn say_counts(rt: &impl Print, counts: Counts) -> io::Result<()> {
-    say_count(rt, counts.computed)?;
-    say_count(rt, counts.filled)?;
-    say_count(rt, counts.defaulted)?;
-    say_count(rt, counts.folded)
-}
-
-// The bits of x; one pattern stands for every NaN.
-pub fn bits(x: f64) -> u64 {
-    if x == x {
-        return f64::to_bits(x);
-    }
-    0x7ff8_0000_0000_0000
-}
-
-// The size of x after its sign if that is a whole number; else the bits of x.
-fn say_signed(rt: &impl Print, sign: &[u8], size: f64, x: f64) -> io::Result<()> {
-    let n = whole_part(size);
-    if bits(std::num::nearest_u64_to_f64(n)) == bits(size) {
-        say(rt, sign)?;
-        say_whole(rt, n)
-    } else {
-        let word = bits(x);
-        print!(rt; " 0x{word:016x}")
-    }
-}
+use refusal::{Refusal, number_of};
+use std::fmt;
+use std::num::f64_to_bits_with_nan;
 
 // A whole number as such; any other, and -0.0, by its bits.
-fn say_number(rt: &impl Print, x: f64) -> io::Result<()> {
-    if x < 0.0 {
-        say_signed(rt, b" -", -x, x)
-    } else {
-        say_signed(rt, b" ", x, x)
+#[derive(Clone, Copy)]
+struct Number(f64);
+
+impl fmt::Display for Number {
+    fn fmt<W: fmt::Write>(&self, f: &mut fmt::Formatter<W>) -> fmt::Result {
+        let Number(x) = *self;
+        let bits = f64_to_bits_with_nan(x);
+        if x.fract() == 0.0 && bits != f64_to_bits_with_nan(-0.0) {
+            write!(f, "{x}")
+        } else {
+            write!(f, "0x{bits:016x}")
+        }
     }
 }
 
-pub fn say_numbers(rt: &impl Print, values: &[f64]) -> io::Result<()> {
-    let mut i = 0;
-    while i < values.len() {
-        say_number(rt, values[i])?;
-        i += 1;
+#[derive(Clone, Copy)]
+pub struct Numbers<'a>(pub &'a [f64]);
+
+impl fmt::Display for Numbers<'_> {
+    fn fmt<W: fmt::Write>(&self, f: &mut fmt::Formatter<W>) -> fmt::Result {
+        for x in self.0 {
+            write!(f, " {}", Number(*x))?;
+        }
+        Ok(())
     }
-    Ok(())
 }
 
-fn say_code(rt: &impl Print, code: u8) -> io::Result<()> {
-    say(rt, b" ")?;
-    say_whole(rt, code as u64)
+#[derive(Clone, Copy)]
+pub struct Codes<'a>(pub &'a [u8]);
+
+impl fmt::Display for Codes<'_> {
+    fn fmt<W: fmt::Write>(&self, f: &mut fmt::Formatter<W>) -> fmt::Result {
+        for code in self.0 {
+            write!(f, " {code}")?;
+        }
+        Ok(())
+    }
 }
 
-pub fn say_codes(rt: &impl Print, codes: &[u8]) -> io::Result<()> {
-    let mut i = 0;
-    while i < codes.len() {
-        say_code(rt, codes[i])?;
-        i += 1;
+#[derive(Clone, Copy)]
+pub struct Tally(pub Counts);
+
+impl fmt::Display for Tally {
+    fn fmt<W: fmt::Write>(&self, f: &mut fmt::Formatter<W>) -> fmt::Result {
+        let Tally(n) = self;
+        write!(
+            f,
+            " {} {} {} {}",
+            n.computed, n.filled, n.defaulted, n.folded
+        )
     }
-    Ok(())
+}
+
+// A refusal's number, and whether every buffer is as it was before the call.
+#[derive(Clone, Copy)]
+pub struct Refused {
+    pub why: Refusal,
+    pub untouched: bool,
+}
+
+impl fmt::Display for Refused {
+    fn fmt<W: fmt::Write>(&self, f: &mut fmt::Formatter<W>) -> fmt::Result {
+        let left = if self.untouched {
+            "nothing written"
+        } else {
+            "BUFFERS WRITTEN"
+        };
+        write!(f, " refusal {}, {left}", number_of(self.why))
+    }
 }

@@ -1,9 +1,0 @@
--- `npy_files::records::records_for` is safe and ends.
-use Rattle.std.proofs.Common.{◌-◌}
-use Rattle.npy_files.proofs.records.records_for.Given as goal
-
-abbrev pub invariant-loop-i : goal.invariant-loop-i
-invariant-loop-i l = Unit {0}
-
-abbrev pub decreases-loop-i : goal.decreases-loop-i
-decreases-loop-i l = l.records - l.i

@@ -1,9 +1,0 @@
--- `phantom::run_all` is safe and ends.
-use Rattle.std.proofs.Common.{◌-◌}
-use Rattle.phantom.proofs.run_all.Given as goal
-
-abbrev pub invariant-loop-n : goal.invariant-loop-n
-invariant-loop-n l = Unit {0}
-
-abbrev pub decreases-loop-n : goal.decreases-loop-n
-decreases-loop-n l = l.end - l.n
