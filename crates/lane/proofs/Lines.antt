@@ -51,3 +51,13 @@ room_more n lines k line there h below m d l =
     (λ b.
     let e : m ≡ k = omega arith in
     rw (e, get_or-set_same lines k line d there) h)
+
+-- line m, where each lane is f of what it was
+pub lane_at : (f : List Float → List Float) (n : ℕ) (entry lines : List (List Float)) → lanes_in n lines ≡ map f (lanes_in n entry) → (m : ℕ) → m < length entry → take n (get_or lines m []) ≡ f (take n (get_or entry m []))
+lane_at f n entry lines e m h =
+    let there : m < length (map f (lanes_in n entry)) = simp length-map h in
+    let room : m < length lines = omega (arith, length-map lines (take n), rw (← e) at there) in
+    sym (get_or-map (take n) lines m [] [] room)
+    ∙ ap (λ (lanes : List (List Float)). get_or lanes m []) e
+    ∙ get_or-map f (lanes_in n entry) m [] [] (simp length-map h)
+    ∙ ap f (get_or-map (take n) entry m [] [] h)

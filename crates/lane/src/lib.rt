@@ -6,8 +6,8 @@ ghost use Rattle.std.specs.Prelude.{◌≡◌, ◌≤◌, ◌<◌, ◌-◌, ◌+
 ghost use Rattle.exact.specs.Rounded.{◌⊗◌};
 ghost use Rattle.limits.specs.Limits.{longest_padded};
 ghost use Rattle.poles.specs.Power.{power};
-ghost use Rattle.lane.specs.Bookkeeping.{lanes_in, Room, causal_start, anticausal_start, causal_step, anticausal_step};
-ghost use Rattle.lane.specs.Lane.{at, near_sum, whole_sum, reflect_sum, init_causal_mirror, init_causal_reflect, init_causal, init_anticausal, causal, anticausal, pass_pole, filter_lane};
+ghost use Rattle.lane.specs.Bookkeeping.{lanes_in, filter_by, Room, causal_start, anticausal_start, causal_step, anticausal_step};
+ghost use Rattle.lane.specs.Lane.{at, near_sum, whole_sum, reflect_sum, init_causal_mirror, init_causal_reflect, init_causal, init_anticausal, causal, anticausal, pass_pole};
 
 use limits::LONGEST_PADDED;
 use poles::{Pole, powi};
@@ -225,7 +225,7 @@ fn scales(lines: &mut Lines, n: usize, gain: f64)
 // The whole filter over four lines.
 pub fn filter_lines(lines: &mut Lines, n: usize, filter: Filter)
     requires { (2 ≤ n) × (n ≤ longest_padded) }
-    ensures { lanes_in n lines.new ≡ map (filter_lane filter.reflect filter.poles.now filter.gain) (lanes_in n lines.old) }
+    ensures { lanes_in n lines.new ≡ map (filter_by filter) (lanes_in n lines.old) }
 {
     scales(lines, n, filter.gain);
     for pole in filter.poles {
