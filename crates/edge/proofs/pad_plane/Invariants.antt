@@ -6,7 +6,5 @@ use Rattle.edge.proofs.Edges.{Copied}
 use Rattle.edge.proofs.pad_plane.Given as goal
 
 abbrev pub invariant-loop-j : goal.invariant-loop-j
-invariant-loop-j l = (l.j ≤ l.n) × Copied l.rows l.row l.wide (clamped l.row) l.from (length l.initial.to) l.j l.to
+invariant-loop-j l = Copied l.rows l.row l.wide (clamped l.row) l.from (length l.initial.to) l.j l.to
 
-abbrev pub decreases-loop-j : goal.decreases-loop-j
-decreases-loop-j l = l.n - l.j

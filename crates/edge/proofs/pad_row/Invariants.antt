@@ -9,7 +9,5 @@ use Rattle.edge.specs.Edge.{clamped}
 use Rattle.edge.proofs.pad_row.Given as goal
 
 abbrev pub invariant-loop-k : goal.invariant-loop-k
-invariant-loop-k l = (l.k ≤ length l.to) × ((length l.to ≡ length l.initial.to) × Filled (λ (m : ℕ). at l.from (clamped (length l.from) m)) nan l.to l.k)
+invariant-loop-k l = ((length l.to ≡ length l.initial.to) × Filled (λ (m : ℕ). at l.from (clamped (length l.from) m)) nan l.to l.k)
 
-abbrev pub decreases-loop-k : goal.decreases-loop-k
-decreases-loop-k l = length l.initial.to - l.k
