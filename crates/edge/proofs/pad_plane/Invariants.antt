@@ -1,5 +1,4 @@
 -- `edge::pad_plane` meets its contract: the first j rows are those of the padded plane.
-use Prim.Native.Nat.{◌-◌, ◌≤◌}
 use lib.ListN.{length}
 use Rattle.edge.specs.Edge.{clamped}
 use Rattle.edge.proofs.Edges.{Copied}
@@ -7,4 +6,3 @@ use Rattle.edge.proofs.pad_plane.Given as goal
 
 abbrev pub invariant-loop-j : goal.invariant-loop-j
 invariant-loop-j l = Copied l.rows l.row l.wide (clamped l.row) l.from (length l.initial.to) l.j l.to
-
