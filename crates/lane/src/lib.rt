@@ -2,12 +2,12 @@
 // lines at once: their chains of operations do not wait for each other.
 #![tactic(auto)]
 
-ghost use Rattle.std.specs.Prelude.{◌≡◌, ◌≤◌, ◌<◌, ◌-◌, ◌+◌, map, length, take, set};
+ghost use Rattle.std.specs.Prelude.{◌≡◌, ◌≤◌, ◌<◌, ◌-◌, ◌+◌, map, length, take};
 ghost use Rattle.exact.specs.Rounded.{◌⊗◌};
 ghost use Rattle.limits.specs.Limits.{longest_padded};
 ghost use Rattle.poles.specs.Power.{power};
 ghost use Rattle.lane.specs.Bookkeeping.{lanes_in, filter_by, Room, causal_start, anticausal_start, causal_step, anticausal_step};
-ghost use Rattle.lane.specs.Lane.{at, near_sum, whole_sum, reflect_sum, init_causal_mirror, init_causal_reflect, init_causal, init_anticausal, causal, anticausal, pass_pole};
+ghost use Rattle.lane.specs.Lane.{near_sum, whole_sum, reflect_sum, init_causal_mirror, init_causal_reflect, init_causal, init_anticausal, causal, anticausal, pass_pole};
 
 use limits::LONGEST_PADDED;
 use poles::{Pole, powi};
@@ -23,6 +23,7 @@ pub struct Filter {
 // Four lines, whose first places hold a lane each.
 pub type Lines = [[f64; LONGEST_PADDED]; 4];
 
+// n stands beside a line that is written: a loop over lent lines cannot lend their fronts.
 fn scale(line: &mut [f64], n: usize, gain: f64)
     requires { n ≤ length line.old }
     ensures { take n line.new ≡ map (λ x. x ⊗ gain) (take n line.old) }

@@ -68,6 +68,7 @@ pub fn powi(x: f64, n: usize) -> f64
     let mut r = 1.0;
     let mut a = x;
     let mut b = n;
+    // halved from turn to turn, and no index
     while b > 0 {
         if b % 2 == 1 {
             r = r * a;

@@ -34,6 +34,7 @@ fn filter_blocks(data: &mut [f64], blocks: usize, grid: Grid, filter: Filter)
 {
     let mut lines = [[0.0; LONGEST_PADDED]; 4];
     let block = grid.lanes * grid.size;
+    // no `chunks_mut`: of what it lent a proof knows only the length
     for i in 0..blocks {
         let s = i * block;
         filter_lanes(&mut data[s..s + block], &mut lines, grid, filter);
