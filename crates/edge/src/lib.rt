@@ -27,11 +27,8 @@ fn pad_row(to: &mut [f64], from: &[f64])
     requires to_len { length to.old ≡ wide_of (length from.now) }
     ensures { to.new ≡ padded_row from.now }
 {
-    let n = from.len();
-    let mut k = 0;
-    while k < to.len() {
-        to[k] = from[clamp(n, k)];
-        k += 1;
+    for (k, x) in to.iter_mut().enumerate() {
+        *x = from[clamp(from.len(), k)];
     }
 }
 
@@ -43,13 +40,10 @@ fn pad_plane(to: &mut [f64], from: &[f64], rows: usize, row: usize)
     ensures { to.new ≡ padded_plane rows row from.now }
 {
     let wide = wide_of(row);
-    let n = wide_of(rows);
-    let mut j = 0;
-    while j < n {
+    for j in 0..wide_of(rows) {
         let t = j * wide;
         let s = clamp(rows, j) * row;
         pad_row(&mut to[t..t + wide], &from[s..s + row]);
-        j += 1;
     }
 }
 
@@ -59,17 +53,13 @@ pub fn pad(to: &mut [f64], from: &[f64], dims: [usize; 3])
     requires to_len { length to.old ≡ count_of (padded_dims dims) }
     ensures { to.new ≡ padded dims from.now }
 {
-    let rows = dims[1];
-    let row = dims[2];
+    let [planes, rows, row] = dims;
     let plane = rows * row;
     let wide = wide_of(rows) * wide_of(row);
-    let n = wide_of(dims[0]);
-    let mut i = 0;
-    while i < n {
+    for i in 0..wide_of(planes) {
         let t = i * wide;
-        let s = clamp(dims[0], i) * plane;
+        let s = clamp(planes, i) * plane;
         pad_plane(&mut to[t..t + wide], &from[s..s + plane], rows, row);
-        i += 1;
     }
 }
 
@@ -78,9 +68,5 @@ pub fn copy(to: &mut [f64], from: &[f64])
     requires { length to.old ≡ length from.now }
     ensures { to.new ≡ from.now }
 {
-    let mut i = 0;
-    while i < from.len() {
-        to[i] = from[i];
-        i += 1;
-    }
+    to.copy_from_slice(from);
 }

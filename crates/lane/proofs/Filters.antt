@@ -1,59 +1,35 @@
--- The steps of a pole make its pass over a lane, and the passes of one pole or two make the filter.
-use Prim.Native.Nat.{ℕ, ◌-◌, ◌≤◌}
-use mathlib.Core.Path.{◌≡◌, refl, ap, sym, ◌∙◌}
+-- The steps of a pole make its pass over each lane, and the passes of the poles make the filter.
+use Prim.Native.Nat.{ℕ, ◌+◌, ◌<◌}
+use mathlib.Core.Path.{◌≡◌, refl, ap}
 use mathlib.Core.Bool.{Bool}
 use mathlib.Core.List.{List, [], ◌∷◌, map}
-use lib.ListN.{length, take, set, length-set}
-use lib.Seq.{length-take-le}
+use native.Mathlib.Numerals.{add-one}
+use lib.ListN.{length, get_or, drop}
+use lib.Seq.{drop-cons}
 use lib.Ieee.{Float}
 use Rattle.exact.specs.Rounded.{◌⊗◌}
-use Rattle.lists.proofs.Tabulated.{length-tabulate}
-use Rattle.poles.specs.declared.Poles.{Poles}
-use Rattle.poles.specs.Poles.{Pole}
-use Rattle.poles.specs.Bookkeeping.{poles_in, Sound}
-use Rattle.poles.proofs.Held.{pole_at, one_in, two_in}
-use Rattle.lane.specs.Lane.{init_causal, causal_at, causal, init_anticausal, anticausal, pass_pole, pass_poles, filter_lane}
+use Rattle.std.proofs.lemmas.List.{map-id}
+use Rattle.poles.specs.declared.Pole.{Pole}
+use Rattle.lane.specs.Lane.{causal, anticausal, pass_pole, pass_poles, filter_lane}
+use Rattle.lane.specs.Bookkeeping.{causal_start, anticausal_start}
+use Rattle.lane.proofs.Passes.{map_then}
 
-length-causal : (z : Float) (c : List Float) → length (causal z c) ≡ length c
-unfolding causal
-length-causal z c = length-tabulate (length c) (causal_at z c)
-
--- the definitions, opened one at a time: what they are made of stays shut
-pass_by : (reflect : Bool) (p : Pole) (lane forward : List Float) → forward ≡ causal p.z (set lane 0 (init_causal reflect p lane)) → anticausal p.z (set forward (length forward - 1) (init_anticausal reflect p.z forward)) ≡ pass_pole reflect p lane
+pub pole_steps : (reflect : Bool) (p : Pole) (lanes : List (List Float)) → map (anticausal p.z) (map (anticausal_start reflect p.z) (map (causal p.z) (map (causal_start reflect p) lanes))) ≡ map (pass_pole reflect p) lanes
 unfolding pass_pole
-pass_by reflect p lane forward e = ap (λ (f : List Float). anticausal p.z (set f (length f - 1) (init_anticausal reflect p.z f))) e
+pole_steps reflect p [] = refl
+pole_steps reflect p (c ∷ lanes) = ap (λ (l : List (List Float)). pass_pole reflect p c ∷ l) (pole_steps reflect p lanes)
 
--- a line at entry, and after each step
-pub pole_steps :
-    (reflect : Bool) (p : Pole) (n : ℕ) (line started forward turned back : List Float) → n ≤ length line →
-    take n started ≡ set (take n line) 0 (init_causal reflect p (take n line)) →
-    take n forward ≡ causal p.z (take n started) →
-    take n turned ≡ set (take n forward) (n - 1) (init_anticausal reflect p.z (take n forward)) →
-    take n back ≡ anticausal p.z (take n turned) →
-    take n back ≡ pass_pole reflect p (take n line)
-pole_steps reflect p n line started forward turned back room e₁ e₂ e₃ e₄ =
-    let long : length (take n forward) ≡ n = ap length e₂ ∙ length-causal p.z (take n started) ∙ ap length e₁ ∙ length-set (take n line) 0 (init_causal reflect p (take n line)) ∙ length-take-le n line room in
-    let e : set (take n forward) (n - 1) (init_anticausal reflect p.z (take n forward)) ≡ set (take n forward) (length (take n forward) - 1) (init_anticausal reflect p.z (take n forward)) = ap (λ (k : ℕ). set (take n forward) k (init_anticausal reflect p.z (take n forward))) (ap (λ (k : ℕ). k - 1) (sym long)) in
-    e₄ ∙ ap (anticausal p.z) (e₃ ∙ e) ∙ pass_by reflect p (take n line) (take n forward) (e₂ ∙ ap (causal p.z) e₁)
+module _ (reflect : Bool) (ps : List Pole) (lanes : List (List Float)) where
+  pub scaled : (gain : Float) → map (pass_poles reflect ps) (map (map (λ x. x ⊗ gain)) lanes) ≡ map (filter_lane reflect ps gain) lanes
+  unfolding filter_lane
+  scaled gain = map_then (pass_poles reflect ps) (map (λ x. x ⊗ gain)) (filter_lane reflect ps gain) lanes (λ k d l. refl)
 
-filter_by : (reflect : Bool) (ps : List Pole) (gain : Float) (lane : List Float) → pass_poles reflect ps (map (λ x. x ⊗ gain) lane) ≡ filter_lane reflect ps gain lane
-unfolding filter_lane
-filter_by reflect ps gain lane = refl
+  pub next_pole : (i : ℕ) (d : Pole) → i < length ps → map (pass_poles reflect (drop (i + 1) ps)) (map (pass_pole reflect (get_or ps i d)) lanes) ≡ map (pass_poles reflect (drop i ps)) lanes
+  unfolding pass_poles
+  next_pole i d h =
+      let here : drop i ps ≡ get_or ps i d ∷ drop (i + 1) ps = rw add-one (drop-cons ps i d h) in
+      rw here (map_then (pass_poles reflect (drop (i + 1) ps)) (pass_pole reflect (get_or ps i d)) (pass_poles reflect (get_or ps i d ∷ drop (i + 1) ps)) lanes (λ k e l. refl))
 
-by_one : (reflect : Bool) (p : Pole) (lane : List Float) → pass_pole reflect p lane ≡ pass_poles reflect (p ∷ []) lane
-unfolding pass_poles
-by_one reflect p lane = refl
-
-by_two : (reflect : Bool) (p q : Pole) (lane : List Float) → pass_pole reflect q (pass_pole reflect p lane) ≡ pass_poles reflect (p ∷ q ∷ []) lane
-unfolding pass_poles
-by_two reflect p q lane = refl
-
-module _ (reflect : Bool) (p : Poles) (gain : Float) (lane scaled first : List Float) (e₁ : scaled ≡ map (λ x. x ⊗ gain) lane) (e₂ : first ≡ pass_pole reflect (pole_at p 0) scaled) where
-  by : (ps : List Pole) (r : List Float) → poles_in p ≡ ps → r ≡ pass_poles reflect ps scaled → r ≡ filter_lane reflect (poles_in p) gain lane
-  by ps r h e = rw h (e ∙ ap (pass_poles reflect ps) e₁ ∙ filter_by reflect ps gain lane)
-
-  pub one_pole : Sound p → (p.count ≡ 2 → ⊥) → first ≡ filter_lane reflect (poles_in p) gain lane
-  one_pole s h = by (pole_at p 0 ∷ []) first (one_in p s h) (e₂ ∙ by_one reflect (pole_at p 0) scaled)
-
-  pub two_poles : (second : List Float) → p.count ≡ 2 → second ≡ pass_pole reflect (pole_at p 1) first → second ≡ filter_lane reflect (poles_in p) gain lane
-  two_poles second c e₃ = by (pole_at p 0 ∷ pole_at p 1 ∷ []) second (two_in p c) (e₃ ∙ ap (pass_pole reflect (pole_at p 1)) e₂ ∙ by_two reflect (pole_at p 0) (pole_at p 1) scaled)
+  pub no_pole : map (pass_poles reflect []) lanes ≡ lanes
+  unfolding pass_poles
+  no_pole = map-id lanes

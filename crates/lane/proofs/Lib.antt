@@ -1,4 +1,5 @@
 -- The laws of a lane's filter.
-pub mod Passes
 pub mod Starts
+pub mod Lines
+pub mod Passes
 pub mod Filters

@@ -5,7 +5,7 @@ use Rattle.border.specs.declared.BorderMode.{BorderMode}
 use Rattle.border.specs.declared.BorderMode.TheVariants.{Constant, Mirror, Nearest, Reflect, Wrap, Replicate}
 use Rattle.exact.specs.Rounded.{◌⊕◌, ◌⊖◌, ◌⊗◌, ◌⊘◌, num}
 use Rattle.lists.specs.Tabulate.{tabulate}
-use Rattle.poles.specs.Poles.{Pole}
+use Rattle.poles.specs.declared.Pole.{Pole}
 use Rattle.poles.specs.Power.{power}
 
 -- whether the starts are those of Reflect

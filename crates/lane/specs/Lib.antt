@@ -1,2 +1,4 @@
 -- The filter of one lane: starts and passes.
 pub mod Lane
+-- The code's own bookkeeping. No promise speaks of it.
+pub mod Bookkeeping

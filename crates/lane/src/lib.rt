@@ -2,295 +2,234 @@
 // lines at once: their chains of operations do not wait for each other.
 #![tactic(auto)]
 
-ghost use Rattle.std.specs.Prelude.{◌≡◌, ◌≤◌, ◌<◌, ◌-◌, map, length, take, set};
+ghost use Rattle.std.specs.Prelude.{◌≡◌, ◌≤◌, ◌<◌, ◌-◌, ◌+◌, map, length, take};
 ghost use Rattle.exact.specs.Rounded.{◌⊗◌};
 ghost use Rattle.limits.specs.Limits.{longest_padded};
-ghost use Rattle.poles.specs.Bookkeeping.{poles_in, Sound};
 ghost use Rattle.poles.specs.Power.{power};
-ghost use Rattle.lane.specs.Lane.{near_sum, whole_sum, reflect_sum, init_causal_mirror, init_causal_reflect, init_causal, init_anticausal, causal, anticausal, pass_pole, filter_lane};
+ghost use Rattle.lane.specs.Bookkeeping.{lanes_in, filter_by, Room, causal_start, anticausal_start, causal_step, anticausal_step};
+ghost use Rattle.lane.specs.Lane.{near_sum, whole_sum, reflect_sum, init_causal_mirror, init_causal_reflect, init_causal, init_anticausal, causal, anticausal, pass_pole};
 
 use limits::LONGEST_PADDED;
-use poles::{Poles, powi};
+use poles::{Pole, powi};
 
+// What lanes are filtered by.
+#[derive(Clone, Copy)]
+pub struct Filter {
+    pub poles: &'static [Pole],
+    pub gain: f64,
+    pub reflect: bool,
+}
+
+// Four lines, whose first places hold a lane each.
+pub type Lines = [[f64; LONGEST_PADDED]; 4];
+
+// n stands beside a line that is written: a loop over lent lines cannot lend their fronts.
 fn scale(line: &mut [f64], n: usize, gain: f64)
     requires { n ≤ length line.old }
     ensures { take n line.new ≡ map (λ x. x ⊗ gain) (take n line.old) }
 {
-    let mut i = 0;
-    while i < n {
-        line[i] = line[i] * gain;
-        i += 1;
+    for x in line[..n].iter_mut() {
+        *x = *x * gain;
     }
 }
 
 // The start of `init_causal_mirror` where the cut-off is below the length.
-fn near_sum(line: &[f64], n: usize, z: f64, cutoff: usize) -> f64
-    requires { (1 ≤ cutoff) × ((cutoff < n) × (n ≤ length line.now)) }
-    ensures { result ≡ near_sum z (take n line.now) (cutoff - 1) }
+fn near_sum(lane: &[f64], pole: Pole) -> f64
+    requires { pole.cutoff < length lane.now }
+    ensures { result ≡ near_sum pole.z lane.now (pole.cutoff - 1) }
 {
-    let mut z_i = z;
-    let mut sum = line[0];
-    let mut i = 1;
-    while i < cutoff {
-        sum = sum + z_i * line[i];
-        z_i = z_i * z;
-        i += 1;
+    let mut z_i = pole.z;
+    let mut sum = lane[0];
+    for i in 1..pole.cutoff {
+        sum = sum + z_i * lane[i];
+        z_i = z_i * pole.z;
     }
     sum
 }
 
 // Its sum elsewhere, over the whole lane and its reflection. z_n_1 is z to the power n - 1.
-fn whole_sum(line: &[f64], n: usize, z: f64, z_n_1: f64) -> f64
-    requires le_n { (2 ≤ n) × (n ≤ length line.now) }
-    requires z_n_1_value { z_n_1 ≡ power z (n - 1) }
-    ensures { result ≡ whole_sum z (take n line.now) (n - 2) }
+fn whole_sum(lane: &[f64], z: f64, z_n_1: f64) -> f64
+    requires le_n { 2 ≤ length lane.now }
+    requires z_n_1_value { z_n_1 ≡ power z (length lane.now - 1) }
+    ensures { result ≡ whole_sum z lane.now (length lane.now - 2) }
 {
+    let n = lane.len();
     let inv_z = 1.0 / z;
     let mut z_i = z;
     let mut z_2n_2_i = z_n_1 * z_n_1 * inv_z;
-    let mut sum = line[0] + line[n - 1] * z_n_1;
-    let mut i = 1;
-    while i < n - 1 {
-        sum = sum + (z_i + z_2n_2_i) * line[i];
+    let mut sum = lane[0] + lane[n - 1] * z_n_1;
+    for i in 1..n - 1 {
+        sum = sum + (z_i + z_2n_2_i) * lane[i];
         z_i = z_i * z;
         z_2n_2_i = z_2n_2_i * inv_z;
-        i += 1;
     }
     sum
 }
 
-fn init_causal_mirror(line: &[f64], n: usize, z: f64, cutoff: usize) -> f64
-    requires { (1 ≤ cutoff) × ((2 ≤ n) × (n ≤ length line.now)) }
-    ensures { result ≡ init_causal_mirror z cutoff (take n line.now) }
+fn init_causal_mirror(lane: &[f64], pole: Pole) -> f64
+    requires { 2 ≤ length lane.now }
+    ensures { result ≡ init_causal_mirror pole.z pole.cutoff lane.now }
 {
-    if cutoff < n {
-        return near_sum(line, n, z, cutoff);
+    if pole.cutoff < lane.len() {
+        return near_sum(lane, pole);
     }
-    let z_n_1 = powi(z, n - 1);
-    whole_sum(line, n, z, z_n_1) / (1.0 - z_n_1 * z_n_1)
+    let z_n_1 = powi(pole.z, lane.len() - 1);
+    whole_sum(lane, pole.z, z_n_1) / (1.0 - z_n_1 * z_n_1)
 }
 
 // The sum of `init_causal_reflect` up to its last turn, which reads the sum itself. z_n is z to the
 // power n.
-fn reflect_sum(line: &[f64], n: usize, z: f64, z_n: f64) -> f64
-    requires le_n { (2 ≤ n) × (n ≤ length line.now) }
-    requires z_n_value { z_n ≡ power z n }
-    ensures { result ≡ reflect_sum z (take n line.now) (n - 1) }
+fn reflect_sum(lane: &[f64], z: f64, z_n: f64) -> f64
+    requires le_n { 2 ≤ length lane.now }
+    requires z_n_value { z_n ≡ power z (length lane.now) }
+    ensures { result ≡ reflect_sum z lane.now (length lane.now - 1) }
 {
+    let n = lane.len();
     let mut z_i = z;
-    let mut sum = line[0] + z_n * line[n - 1];
-    let mut i = 1;
-    while i < n - 1 {
-        sum = sum + z_i * (line[i] + z_n * line[n - 1 - i]);
+    let mut sum = lane[0] + z_n * lane[n - 1];
+    for i in 1..n - 1 {
+        sum = sum + z_i * (lane[i] + z_n * lane[n - 1 - i]);
         z_i = z_i * z;
-        i += 1;
     }
-    sum + z_i * (line[n - 1] + z_n * sum)
+    sum + z_i * (lane[n - 1] + z_n * sum)
 }
 
-fn init_causal_reflect(line: &[f64], n: usize, z: f64) -> f64
-    requires { (2 ≤ n) × (n ≤ length line.now) }
-    ensures { result ≡ init_causal_reflect z (take n line.now) }
+fn init_causal_reflect(lane: &[f64], z: f64) -> f64
+    requires { 2 ≤ length lane.now }
+    ensures { result ≡ init_causal_reflect z lane.now }
 {
-    let z_n = powi(z, n);
-    reflect_sum(line, n, z, z_n) * (z / (1.0 - z_n * z_n)) + line[0]
+    let z_n = powi(z, lane.len());
+    reflect_sum(lane, z, z_n) * (z / (1.0 - z_n * z_n)) + lane[0]
 }
 
-fn init_causal_coefficient(line: &[f64], n: usize, z: f64, cutoff: usize, reflect: bool) -> f64
-    requires { (1 ≤ cutoff) × ((2 ≤ n) × (n ≤ length line.now)) }
-    ensures { result ≡ init_causal reflect (record { z = z; cutoff = cutoff }) (take n line.now) }
+fn init_causal(lane: &[f64], pole: Pole, reflect: bool) -> f64
+    requires { 2 ≤ length lane.now }
+    ensures { result ≡ init_causal reflect pole lane.now }
 {
     if reflect {
-        return init_causal_reflect(line, n, z);
+        init_causal_reflect(lane, pole.z)
+    } else {
+        init_causal_mirror(lane, pole)
     }
-    init_causal_mirror(line, n, z, cutoff)
 }
 
-fn init_anticausal_coefficient(line: &[f64], n: usize, z: f64, reflect: bool) -> f64
-    requires { (2 ≤ n) × (n ≤ length line.now) }
-    ensures { result ≡ init_anticausal reflect z (take n line.now) }
+fn init_anticausal(lane: &[f64], z: f64, reflect: bool) -> f64
+    requires { 2 ≤ length lane.now }
+    ensures { result ≡ init_anticausal reflect z lane.now }
 {
-    let last = line[n - 1];
+    let n = lane.len();
+    let last = lane[n - 1];
     if reflect {
-        return last * (z / (z - 1.0));
-    }
-    z / (z * z - 1.0) * (z * line[n - 2] + last)
-}
-
-// The forward pass over four lines.
-fn causal_pass(a: &mut [f64], b: &mut [f64], c: &mut [f64], d: &mut [f64], n: usize, z: f64)
-    requires le_n { 2 ≤ n }
-    requires n_in_bounds { (n ≤ length a.old) × ((n ≤ length b.old) × ((n ≤ length c.old) × (n ≤ length d.old))) }
-    ensures a_after { take n a.new ≡ causal z (take n a.old) }
-    ensures b_after { take n b.new ≡ causal z (take n b.old) }
-    ensures c_after { take n c.new ≡ causal z (take n c.old) }
-    ensures d_after { take n d.new ≡ causal z (take n d.old) }
-{
-    let mut i = 1;
-    while i < n {
-        a[i] = a[i] + z * a[i - 1];
-        b[i] = b[i] + z * b[i - 1];
-        c[i] = c[i] + z * c[i - 1];
-        d[i] = d[i] + z * d[i - 1];
-        i += 1;
+        last * (z / (z - 1.0))
+    } else {
+        z / (z * z - 1.0) * (z * lane[n - 2] + last)
     }
 }
 
-// The backward pass over four lines.
-fn anticausal_pass(a: &mut [f64], b: &mut [f64], c: &mut [f64], d: &mut [f64], n: usize, z: f64)
-    requires le_n { 2 ≤ n }
-    requires n_in_bounds { (n ≤ length a.old) × ((n ≤ length b.old) × ((n ≤ length c.old) × (n ≤ length d.old))) }
-    ensures a_after { take n a.new ≡ anticausal z (take n a.old) }
-    ensures b_after { take n b.new ≡ anticausal z (take n b.old) }
-    ensures c_after { take n c.new ≡ anticausal z (take n c.old) }
-    ensures d_after { take n d.new ≡ anticausal z (take n d.old) }
+fn start_causal(line: &mut [f64], n: usize, pole: Pole, reflect: bool)
+    requires { (2 ≤ n) × (n ≤ length line.old) }
+    ensures { take n line.new ≡ causal_start reflect pole (take n line.old) }
 {
-    let mut i = n - 1;
-    while i > 0 {
-        i -= 1;
-        a[i] = z * (a[i + 1] - a[i]);
-        b[i] = z * (b[i + 1] - b[i]);
-        c[i] = z * (c[i + 1] - c[i]);
-        d[i] = z * (d[i + 1] - d[i]);
-    }
-}
-
-fn start_causal(line: &mut [f64], n: usize, z: f64, cutoff: usize, reflect: bool)
-    requires { (1 ≤ cutoff) × ((2 ≤ n) × (n ≤ length line.old)) }
-    ensures { take n line.new ≡ set (take n line.old) 0 (init_causal reflect (record { z = z; cutoff = cutoff }) (take n line.old)) }
-{
-    let start = init_causal_coefficient(line, n, z, cutoff, reflect);
-    line[0] = start;
+    line[0] = init_causal(&line[..n], pole, reflect);
 }
 
 fn start_anticausal(line: &mut [f64], n: usize, z: f64, reflect: bool)
     requires { (2 ≤ n) × (n ≤ length line.old) }
-    ensures { take n line.new ≡ set (take n line.old) (n - 1) (init_anticausal reflect z (take n line.old)) }
+    ensures after { take n line.new ≡ anticausal_start reflect z (take n line.old) }
+    ensures room { n ≤ length line.new }
 {
-    let start = init_anticausal_coefficient(line, n, z, reflect);
-    line[n - 1] = start;
+    line[n - 1] = init_anticausal(&line[..n], z, reflect);
 }
 
-// The starts of the forward pass.
-fn start_causals(
-    a: &mut [f64],
-    b: &mut [f64],
-    c: &mut [f64],
-    d: &mut [f64],
-    n: usize,
-    z: f64,
-    cutoff: usize,
-    reflect: bool,
-)
-    requires le_cutoff { (1 ≤ cutoff) × (2 ≤ n) }
-    requires n_in_bounds { (n ≤ length a.old) × ((n ≤ length b.old) × ((n ≤ length c.old) × (n ≤ length d.old))) }
-    ensures a_after { take n a.new ≡ set (take n a.old) 0 (init_causal reflect (record { z = z; cutoff = cutoff }) (take n a.old)) }
-    ensures b_after { take n b.new ≡ set (take n b.old) 0 (init_causal reflect (record { z = z; cutoff = cutoff }) (take n b.old)) }
-    ensures c_after { take n c.new ≡ set (take n c.old) 0 (init_causal reflect (record { z = z; cutoff = cutoff }) (take n c.old)) }
-    ensures d_after { take n d.new ≡ set (take n d.old) 0 (init_causal reflect (record { z = z; cutoff = cutoff }) (take n d.old)) }
+// One step of the forward pass over each line.
+fn causal_step(lines: &mut Lines, i: usize, z: f64)
+    requires { (1 ≤ i) × (i < longest_padded) }
+    ensures { lines.new ≡ map (causal_step z i) lines.old }
 {
-    start_causal(a, n, z, cutoff, reflect);
-    start_causal(b, n, z, cutoff, reflect);
-    start_causal(c, n, z, cutoff, reflect);
-    start_causal(d, n, z, cutoff, reflect);
-}
-
-// The starts of the backward pass.
-fn start_anticausals(
-    a: &mut [f64],
-    b: &mut [f64],
-    c: &mut [f64],
-    d: &mut [f64],
-    n: usize,
-    z: f64,
-    reflect: bool,
-)
-    requires le_n { 2 ≤ n }
-    requires n_in_bounds { (n ≤ length a.old) × ((n ≤ length b.old) × ((n ≤ length c.old) × (n ≤ length d.old))) }
-    ensures a_after { take n a.new ≡ set (take n a.old) (n - 1) (init_anticausal reflect z (take n a.old)) }
-    ensures b_after { take n b.new ≡ set (take n b.old) (n - 1) (init_anticausal reflect z (take n b.old)) }
-    ensures c_after { take n c.new ≡ set (take n c.old) (n - 1) (init_anticausal reflect z (take n c.old)) }
-    ensures d_after { take n d.new ≡ set (take n d.old) (n - 1) (init_anticausal reflect z (take n d.old)) }
-{
-    start_anticausal(a, n, z, reflect);
-    start_anticausal(b, n, z, reflect);
-    start_anticausal(c, n, z, reflect);
-    start_anticausal(d, n, z, reflect);
-}
-
-// The four steps of one pole.
-fn pass_pole(
-    a: &mut [f64],
-    b: &mut [f64],
-    c: &mut [f64],
-    d: &mut [f64],
-    n: usize,
-    z: f64,
-    cutoff: usize,
-    reflect: bool,
-)
-    requires le_cutoff { (1 ≤ cutoff) × (2 ≤ n) }
-    requires n_in_bounds { (n ≤ length a.old) × ((n ≤ length b.old) × ((n ≤ length c.old) × (n ≤ length d.old))) }
-    ensures a_after { take n a.new ≡ pass_pole reflect (record { z = z; cutoff = cutoff }) (take n a.old) }
-    ensures b_after { take n b.new ≡ pass_pole reflect (record { z = z; cutoff = cutoff }) (take n b.old) }
-    ensures c_after { take n c.new ≡ pass_pole reflect (record { z = z; cutoff = cutoff }) (take n c.old) }
-    ensures d_after { take n d.new ≡ pass_pole reflect (record { z = z; cutoff = cutoff }) (take n d.old) }
-{
-    start_causals(a, b, c, d, n, z, cutoff, reflect);
-    causal_pass(a, b, c, d, n, z);
-    start_anticausals(a, b, c, d, n, z, reflect);
-    anticausal_pass(a, b, c, d, n, z);
-}
-
-// The whole filter over four lines.
-fn filter_slices(
-    a: &mut [f64],
-    b: &mut [f64],
-    c: &mut [f64],
-    d: &mut [f64],
-    n: usize,
-    p: Poles,
-    gain: f64,
-    reflect: bool,
-)
-    requires le_n { 2 ≤ n }
-    requires n_in_bounds { (n ≤ length a.old) × ((n ≤ length b.old) × ((n ≤ length c.old) × (n ≤ length d.old))) }
-    requires sound { Sound p }
-    ensures a_after { take n a.new ≡ filter_lane reflect (poles_in p) gain (take n a.old) }
-    ensures b_after { take n b.new ≡ filter_lane reflect (poles_in p) gain (take n b.old) }
-    ensures c_after { take n c.new ≡ filter_lane reflect (poles_in p) gain (take n c.old) }
-    ensures d_after { take n d.new ≡ filter_lane reflect (poles_in p) gain (take n d.old) }
-{
-    scale(a, n, gain);
-    scale(b, n, gain);
-    scale(c, n, gain);
-    scale(d, n, gain);
-    let z = p.pole;
-    let cutoff = p.cutoff;
-    pass_pole(a, b, c, d, n, z[0], cutoff[0], reflect);
-    if p.count == 2 {
-        pass_pole(a, b, c, d, n, z[1], cutoff[1], reflect);
+    for line in lines.iter_mut() {
+        line[i] = line[i] + z * line[i - 1];
     }
 }
 
-// The same over lines of 4,120 numbers: a slice brings its length, as an array behind a reference does
-// not.
-pub fn filter_lines(
-    a: &mut [f64; LONGEST_PADDED],
-    b: &mut [f64; LONGEST_PADDED],
-    c: &mut [f64; LONGEST_PADDED],
-    d: &mut [f64; LONGEST_PADDED],
-    n: usize,
-    p: Poles,
-    gain: f64,
-    reflect: bool,
-)
-    requires le_n { (2 ≤ n) × (n ≤ longest_padded) }
-    requires sound { Sound p }
-    ensures a_after { take n a.new ≡ filter_lane reflect (poles_in p) gain (take n a.old) }
-    ensures b_after { take n b.new ≡ filter_lane reflect (poles_in p) gain (take n b.old) }
-    ensures c_after { take n c.new ≡ filter_lane reflect (poles_in p) gain (take n c.old) }
-    ensures d_after { take n d.new ≡ filter_lane reflect (poles_in p) gain (take n d.old) }
+// The forward pass over four lines.
+fn causal_pass(lines: &mut Lines, n: usize, z: f64)
+    requires { n ≤ longest_padded }
+    ensures { lanes_in n lines.new ≡ map (causal z) (lanes_in n lines.old) }
 {
-    filter_slices(a, b, c, d, n, p, gain, reflect);
+    for i in 1..n {
+        causal_step(lines, i, z);
+    }
+}
+
+// One step of the backward pass over each line.
+fn anticausal_step(lines: &mut Lines, i: usize, z: f64)
+    requires { i + 1 < longest_padded }
+    ensures { lines.new ≡ map (anticausal_step z i) lines.old }
+{
+    for line in lines.iter_mut() {
+        line[i] = z * (line[i + 1] - line[i]);
+    }
+}
+
+// The backward pass over four lines.
+fn anticausal_pass(lines: &mut Lines, n: usize, z: f64)
+    requires le_n { (1 ≤ n) × (n ≤ longest_padded) }
+    requires room { Room n lines.old }
+    ensures { lanes_in n lines.new ≡ map (anticausal z) (lanes_in n lines.old) }
+{
+    for i in (0..n - 1).rev() {
+        anticausal_step(lines, i, z);
+    }
+}
+
+// The starts of the forward pass.
+fn start_causals(lines: &mut Lines, n: usize, pole: Pole, reflect: bool)
+    requires { (2 ≤ n) × (n ≤ longest_padded) }
+    ensures { lanes_in n lines.new ≡ map (causal_start reflect pole) (lanes_in n lines.old) }
+{
+    for line in lines.iter_mut() {
+        start_causal(line, n, pole, reflect);
+    }
+}
+
+// The starts of the backward pass.
+fn start_anticausals(lines: &mut Lines, n: usize, z: f64, reflect: bool)
+    requires { (2 ≤ n) × (n ≤ longest_padded) }
+    ensures after { lanes_in n lines.new ≡ map (anticausal_start reflect z) (lanes_in n lines.old) }
+    ensures room { Room n lines.new }
+{
+    for line in lines.iter_mut() {
+        start_anticausal(line, n, z, reflect);
+    }
+}
+
+// The four steps of one pole.
+fn pass_pole(lines: &mut Lines, n: usize, pole: Pole, reflect: bool)
+    requires { (2 ≤ n) × (n ≤ longest_padded) }
+    ensures { lanes_in n lines.new ≡ map (pass_pole reflect pole) (lanes_in n lines.old) }
+{
+    start_causals(lines, n, pole, reflect);
+    causal_pass(lines, n, pole.z);
+    start_anticausals(lines, n, pole.z, reflect);
+    anticausal_pass(lines, n, pole.z);
+}
+
+fn scales(lines: &mut Lines, n: usize, gain: f64)
+    requires { n ≤ longest_padded }
+    ensures { lanes_in n lines.new ≡ map (map (λ x. x ⊗ gain)) (lanes_in n lines.old) }
+{
+    for line in lines.iter_mut() {
+        scale(line, n, gain);
+    }
+}
+
+// The whole filter over four lines.
+pub fn filter_lines(lines: &mut Lines, n: usize, filter: Filter)
+    requires { (2 ≤ n) × (n ≤ longest_padded) }
+    ensures { lanes_in n lines.new ≡ map (filter_by filter) (lanes_in n lines.old) }
+{
+    scales(lines, n, filter.gain);
+    for pole in filter.poles {
+        pass_pole(lines, n, *pole, filter.reflect);
+    }
 }

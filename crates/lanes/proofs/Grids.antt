@@ -6,7 +6,8 @@ use native.Mathlib.Omega.{arith}
 use native.Mathlib.Nat.{mul_comm, mul_assoc, add-mul, mod-lt, mod-eq_of_lt, div-one, div-add-mod', div-lt_iff_lt-mul, mul-add-div_right, mul-add-mod_self_right, mul-le-mul_right, le-mul_of_pos_right, le_antisymm, le_of_mul-le-mul_right}
 use lib.Arith.{digits_lt, digits_div, digits_mod}
 use Rattle.lanes.specs.Along.{along}
-use Rattle.lanes.specs.Bookkeeping.{Grid}
+use Rattle.lanes.specs.declared.Grid.{Grid}
+use Rattle.lanes.specs.Bookkeeping.{Fills}
 
 -- a place of a lane is no further than the last
 pub reaches : (i n stride : ℕ) → i < n → i * stride ≤ (n - 1) * stride
@@ -34,57 +35,57 @@ behind_back : (n m : ℕ) → m ≡ m / n * n + along n 1 m * 1
 behind_back n m = rw div-one (omega (arith, div-add-mod' m n))
 
 -- the lane of place m
-pub record OnLane (lanes n step stride m : ℕ) : Type 0 where
+pub record OnLane (grid : Grid) (m : ℕ) : Type 0 where
   pub lane : ℕ
-  pub there : lane < lanes
-  pub is : m ≡ lane * step + along n stride m * stride
+  pub there : lane < grid.lanes
+  pub is : m ≡ lane * grid.step + along grid.size grid.stride m * grid.stride
 
-module _ {lanes n step stride count : ℕ} (g : Grid lanes n step stride count) where
-  pub along_is : (j i : ℕ) → j < lanes → i < n → along n stride (j * step + i * stride) ≡ i
+module _ {grid : Grid} {count : ℕ} (g : Fills grid count) where
+  pub along_is : (j i : ℕ) → j < grid.lanes → i < grid.size → along grid.size grid.stride (j * grid.step + i * grid.stride) ≡ i
   along_is j i h k = elim g.lie [
-    | inl e ↦ rw (e.0, e.1) (beside lanes n j i h k)
-    | inr e ↦ rw (e.0, e.1) (behind n j i k)
+    | inl e ↦ rw (e.0, e.1) (beside grid.lanes grid.size j i h k)
+    | inr e ↦ rw (e.0, e.1) (behind grid.size j i k)
   ]
 
-  pub inside : (j i : ℕ) → j < lanes → i < n → j * step + i * stride < count
+  pub inside : (j i : ℕ) → j < grid.lanes → i < grid.size → j * grid.step + i * grid.stride < count
   inside j i h k = rw g.all (elim g.lie [
-    | inl e ↦ rw (e.0, e.1) (omega (arith, digits_lt k h, mul_comm lanes n))
+    | inl e ↦ rw (e.0, e.1) (omega (arith, digits_lt k h, mul_comm grid.lanes grid.size))
     | inr e ↦ rw (e.0, e.1) (omega (arith, digits_lt h k))
   ])
 
   -- the end of a lane
-  pub ends : (j : ℕ) → j < lanes → j * step + (n - 1) * stride < count
-  ends j h = inside j (n - 1) h (omega (arith, g.least))
+  pub ends : (j : ℕ) → j < grid.lanes → j * grid.step + (grid.size - 1) * grid.stride < count
+  ends j h = inside j (grid.size - 1) h (omega (arith, g.least))
 
-  pub on_lane : (m : ℕ) → m < count → OnLane lanes n step stride m
+  pub on_lane : (m : ℕ) → m < count → OnLane grid m
   on_lane m h =
-      let l : m < lanes * n = rw g.all at h in
-      let some : 0 < n = omega (arith, g.least) in
+      let l : m < grid.lanes * grid.size = rw g.all at h in
+      let some : 0 < grid.size = omega (arith, g.least) in
       elim g.lie [
-        | inl e ↦ rw (e.0, e.1) (record { lane = m % lanes; there = mod-lt m g.some; is = beside_back lanes n m g.some l })
-        | inr e ↦ rw (e.0, e.1) (record { lane = m / n; there = (div-lt_iff_lt-mul some).1 l; is = behind_back n m })
+        | inl e ↦ rw (e.0, e.1) (record { lane = m % grid.lanes; there = mod-lt m g.some; is = beside_back grid.lanes grid.size m g.some l })
+        | inr e ↦ rw (e.0, e.1) (record { lane = m / grid.size; there = (div-lt_iff_lt-mul some).1 l; is = behind_back grid.size m })
       ]
 
-  pub step_some : 1 ≤ step
+  pub step_some : 1 ≤ grid.step
   step_some = elim g.lie [ inl e ↦ omega arith | inr e ↦ omega (arith, g.least) ]
 
-  pub stride_some : 1 ≤ stride
+  pub stride_some : 1 ≤ grid.stride
   stride_some = elim g.lie [ inl e ↦ omega (arith, g.some) | inr e ↦ omega arith ]
 
-  pub lanes_few : lanes ≤ count
+  pub lanes_few : grid.lanes ≤ count
   lanes_few =
-      let long : lanes ≤ lanes * n = le-mul_of_pos_right lanes (omega (arith, g.least)) in
+      let long : grid.lanes ≤ grid.lanes * grid.size = le-mul_of_pos_right grid.lanes (omega (arith, g.least)) in
       omega (arith, g.all)
 
-  pub of_length : {length : ℕ} → length ≡ count → Grid lanes n step stride length
+  pub of_length : {length : ℕ} → length ≡ count → Fills grid length
   of_length e = rw e g
 
   -- two lanes share no place
-  pub apart : (j k i h : ℕ) → j < lanes → k < lanes → i < n → h < n → j * step + i * stride ≡ k * step + h * stride → j ≡ k
+  pub apart : (j k i h : ℕ) → j < grid.lanes → k < grid.lanes → i < grid.size → h < grid.size → j * grid.step + i * grid.stride ≡ k * grid.step + h * grid.stride → j ≡ k
   apart j k i h lj lk li lh e =
-      let same : i ≡ h = sym (along_is j i lj li) ∙ ap (λ (m : ℕ). along n stride m) e ∙ along_is k h lk lh in
-      let places : i * stride ≡ h * stride = ap (λ (x : ℕ). x * stride) same in
-      le_antisymm (le_of_mul-le-mul_right {k = step} (omega arith) step_some) (le_of_mul-le-mul_right {k = step} (omega arith) step_some)
+      let same : i ≡ h = sym (along_is j i lj li) ∙ ap (λ (m : ℕ). along grid.size grid.stride m) e ∙ along_is k h lk lh in
+      let places : i * grid.stride ≡ h * grid.stride = ap (λ (x : ℕ). x * grid.stride) same in
+      le_antisymm (le_of_mul-le-mul_right {k = grid.step} (omega arith) step_some) (le_of_mul-le-mul_right {k = grid.step} (omega arith) step_some)
 
 -- ---- blocks of whole lanes, one after another
 module _ (n s : ℕ) (some : 1 ≤ n) (apart : 1 ≤ s) where

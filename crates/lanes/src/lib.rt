@@ -1,16 +1,22 @@
 // The lanes of a buffer, four at a time: taken into lines, filtered, written back.
 #![tactic(auto)]
 
-ghost use Rattle.std.specs.Prelude.{◌≡◌, ◌+◌, ◌*◌, ◌-◌, ◌≤◌, ◌<◌, length, take};
-ghost use Rattle.limits.specs.Limits.{longest_padded};
-ghost use Rattle.poles.specs.Bookkeeping.{poles_in, Sound};
-ghost use Rattle.lane.specs.Lane.{filter_lane};
+ghost use Rattle.std.specs.Prelude.{◌≡◌, ◌+◌, ◌*◌, ◌-◌, ◌≤◌, ◌<◌, ℕ, [], length, get_or, take};
+ghost use Rattle.lane.specs.Bookkeeping.{filter_by};
 ghost use Rattle.lanes.specs.Along.{lane_of, filter_along};
-ghost use Rattle.lanes.specs.Bookkeeping.{Written, Grid, Replaced, lanes_by};
+ghost use Rattle.lanes.specs.Bookkeeping.{Written, Fills, Replaced, lanes_by};
 
-use lane::filter_lines;
-use limits::LONGEST_PADDED;
-use poles::Poles;
+use lane::{Filter, Lines, filter_lines};
+
+// How lanes of `size` numbers lie in a buffer: lane j starts at j * step, and its numbers stand
+// `stride` apart.
+#[derive(Clone, Copy)]
+pub struct Grid {
+    pub lanes: usize,
+    pub size: usize,
+    pub step: usize,
+    pub stride: usize,
+}
 
 // The lane that starts at `start`, into the line.
 fn take_lane(line: &mut [f64], data: &[f64], start: usize, stride: usize, n: usize)
@@ -18,119 +24,81 @@ fn take_lane(line: &mut [f64], data: &[f64], start: usize, stride: usize, n: usi
     requires stride_in_bounds { start + (n - 1) * stride < length «data».now }
     ensures { take n line.new ≡ lane_of n stride start «data».now }
 {
-    let mut i = 0;
-    while i < n {
+    for i in 0..n {
         line[i] = data[start + i * stride];
-        i += 1;
     }
 }
 
 // The line, back to its lane.
-fn put_lane(data: &mut [f64], line: &[f64; LONGEST_PADDED], start: usize, stride: usize, n: usize)
-    requires le_n { (1 ≤ n) × (n ≤ longest_padded) }
+fn put_lane(data: &mut [f64], line: &[f64], start: usize, stride: usize, n: usize)
+    requires le_n { (1 ≤ n) × (n ≤ length line.now) }
     requires le_stride { 1 ≤ stride }
     requires stride_in_bounds { start + (n - 1) * stride < length «data».old }
     ensures { Written n stride start (take n line.now) «data».old «data».new }
 {
-    let mut i = 0;
-    while i < n {
+    for i in 0..n {
         data[start + i * stride] = line[i];
-        i += 1;
     }
 }
 
 // Lane j, where there is one.
-fn take_one(
-    line: &mut [f64],
-    data: &[f64],
-    j: usize,
-    lanes: usize,
-    step: usize,
-    stride: usize,
-    n: usize,
-)
-    requires grid { Grid lanes n step stride (length «data».now) }
-    requires n_in_bounds { n ≤ length line.old }
-    ensures { j < lanes → take n line.new ≡ lane_of n stride (j * step) «data».now }
+fn take_one(line: &mut [f64], data: &[f64], grid: Grid, j: usize)
+    requires fills { Fills grid (length «data».now) }
+    requires size_in_bounds { grid.size ≤ length line.old }
+    ensures { j < grid.lanes → take grid.size line.new ≡ lane_of grid.size grid.stride (j * grid.step) «data».now }
 {
-    if j < lanes {
-        take_lane(line, data, j * step, stride, n);
+    if j < grid.lanes {
+        take_lane(line, data, j * grid.step, grid.stride, grid.size);
     }
 }
 
-fn put_one(
-    data: &mut [f64],
-    line: &[f64; LONGEST_PADDED],
-    j: usize,
-    lanes: usize,
-    step: usize,
-    stride: usize,
-    n: usize,
-)
-    requires { Grid lanes n step stride (length «data».old) }
-    ensures { Replaced lanes n step stride j (j + 1) (λ k. take n line.now) «data».old «data».new }
+fn put_one(data: &mut [f64], line: &[f64], grid: Grid, j: usize)
+    requires fills { Fills grid (length «data».old) }
+    requires size_in_bounds { grid.size ≤ length line.now }
+    ensures { Replaced grid j (j + 1) (λ k. take grid.size line.now) «data».old «data».new }
 {
-    if j < lanes {
-        put_lane(data, line, j * step, stride, n);
+    if j < grid.lanes {
+        put_lane(data, line, j * grid.step, grid.stride, grid.size);
     }
 }
 
 // Lanes j to j + 3, those that there are.
-fn filter_four(
-    data: &mut [f64],
-    a: &mut [f64; LONGEST_PADDED],
-    b: &mut [f64; LONGEST_PADDED],
-    c: &mut [f64; LONGEST_PADDED],
-    d: &mut [f64; LONGEST_PADDED],
-    j: usize,
-    lanes: usize,
-    step: usize,
-    stride: usize,
-    n: usize,
-    p: Poles,
-    gain: f64,
-    reflect: bool,
-)
-    requires grid { Grid lanes n step stride (length «data».old) }
-    requires j_lt_lanes { j < lanes }
-    requires sound { Sound p }
-    ensures { Replaced lanes n step stride j (j + 4) (lanes_by (filter_lane reflect (poles_in p) gain) n step stride «data».old) «data».old «data».new }
+fn take_four(lines: &mut Lines, data: &[f64], grid: Grid, j: usize)
+    requires fills { Fills grid (length «data».now) }
+    requires j_lt_lanes { j < grid.lanes }
+    ensures { (k : ℕ) → k < 4 → j + k < grid.lanes → take grid.size (get_or lines.new k []) ≡ lane_of grid.size grid.stride ((j + k) * grid.step) «data».now }
 {
-    take_one(a, data, j, lanes, step, stride, n);
-    take_one(b, data, j + 1, lanes, step, stride, n);
-    take_one(c, data, j + 2, lanes, step, stride, n);
-    take_one(d, data, j + 3, lanes, step, stride, n);
-    filter_lines(a, b, c, d, n, p, gain, reflect);
-    put_one(data, a, j, lanes, step, stride, n);
-    put_one(data, b, j + 1, lanes, step, stride, n);
-    put_one(data, c, j + 2, lanes, step, stride, n);
-    put_one(data, d, j + 3, lanes, step, stride, n);
+    for (k, line) in lines.iter_mut().enumerate() {
+        take_one(line, data, grid, j + k);
+    }
 }
 
-// All lanes of a buffer that they fill: lane j starts at j * step, and its numbers stand `stride` apart.
-pub fn filter_lanes(
-    data: &mut [f64],
-    a: &mut [f64; LONGEST_PADDED],
-    b: &mut [f64; LONGEST_PADDED],
-    c: &mut [f64; LONGEST_PADDED],
-    d: &mut [f64; LONGEST_PADDED],
-    lanes: usize,
-    step: usize,
-    stride: usize,
-    n: usize,
-    p: Poles,
-    gain: f64,
-    reflect: bool,
-)
-    requires grid { Grid lanes n step stride (length «data».old) }
-    requires sound { Sound p }
-    ensures { «data».new ≡ filter_along (filter_lane reflect (poles_in p) gain) n stride «data».old }
+fn put_four(data: &mut [f64], lines: &Lines, grid: Grid, j: usize)
+    requires fills { Fills grid (length «data».old) }
+    requires j_lt_lanes { j < grid.lanes }
+    ensures { Replaced grid j (j + 4) (λ k. take grid.size (get_or lines.now (k - j) [])) «data».old «data».new }
 {
-    let mut j = 0;
-    while j < lanes {
-        filter_four(
-            data, a, b, c, d, j, lanes, step, stride, n, p, gain, reflect,
-        );
-        j += 4;
+    for (k, line) in lines.iter().enumerate() {
+        put_one(data, line, grid, j + k);
+    }
+}
+
+fn filter_four(data: &mut [f64], lines: &mut Lines, grid: Grid, j: usize, filter: Filter)
+    requires fills { Fills grid (length «data».old) }
+    requires j_lt_lanes { j < grid.lanes }
+    ensures { Replaced grid j (j + 4) (lanes_by (filter_by filter) grid «data».old) «data».old «data».new }
+{
+    take_four(lines, data, grid, j);
+    filter_lines(lines, grid.size, filter);
+    put_four(data, lines, grid, j);
+}
+
+// All lanes of a buffer that they fill. What the lines hold before does not matter.
+pub fn filter_lanes(data: &mut [f64], lines: &mut Lines, grid: Grid, filter: Filter)
+    requires { Fills grid (length «data».old) }
+    ensures { «data».new ≡ filter_along (filter_by filter) grid.size grid.stride «data».old }
+{
+    for j in (0..grid.lanes).step_by(4) {
+        filter_four(data, lines, grid, j, filter);
     }
 }

@@ -3,4 +3,3 @@ pub mod Roots
 pub mod Decimals
 pub mod Gains
 pub mod Powers
-pub mod Held

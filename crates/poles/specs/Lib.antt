@@ -3,5 +3,3 @@ pub mod Poles
 pub mod Roots
 pub mod Decimals
 pub mod Power
--- The code's own bookkeeping. No promise speaks of it.
-pub mod Bookkeeping

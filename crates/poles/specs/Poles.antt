@@ -2,12 +2,8 @@
 use Rattle.std.specs.Prelude.{ℕ, cond, List, [], ◌∷◌, eqb, Float}
 use Rattle.std.specs.Float.{binary64}
 use Rattle.std.specs.Float.Ieee.{of_bits}
+use Rattle.poles.specs.declared.Pole.{Pole}
 use Rattle.exact.specs.Rounded.{◌⊖◌, ◌⊗◌, ◌⊘◌, num}
-
--- a pole, and how many numbers of a lane its mirror start reads where the lane is longer
-pub record Pole : Type 0 where
-  pub z : Float
-  pub cutoff : ℕ
 
 pub record PoleLine : Type 0 where
   pub order : ℕ

@@ -3,42 +3,48 @@
 
 ghost use Rattle.std.specs.Prelude.{◌≡◌, ◌≤◌};
 ghost use Rattle.poles.specs.Poles.{poles_of, gain_of};
-ghost use Rattle.poles.specs.Bookkeeping.{poles_in, Sound};
 ghost use Rattle.poles.specs.Power.{power};
 
-// The one or two poles of an order, with their cut-off counts.
+// A pole, and how many numbers of a lane its mirror start reads where the lane is longer.
 #[derive(Clone, Copy)]
-pub struct Poles {
-    pub count: usize,
-    pub pole: [f64; 2],
-    pub cutoff: [usize; 2],
+pub struct Pole {
+    pub z: f64,
+    pub cutoff: usize,
 }
 
-pub fn get_filter_poles(order: usize) -> Poles
+pub fn get_filter_poles(order: usize) -> &'static [Pole]
     requires { (2 ≤ order) × (order ≤ 5) }
-    ensures { Sound result × (poles_in result ≡ poles_of order) }
+    ensures { result.now ≡ poles_of order }
 {
     match order {
-        2 => Poles {
-            count: 1,
-            pole: [-0.1715728752538097, 0.0],
-            cutoff: [19, 0],
-        },
-        3 => Poles {
-            count: 1,
-            pole: [-0.2679491924311228, 0.0],
-            cutoff: [25, 0],
-        },
-        4 => Poles {
-            count: 2,
-            pole: [-0.3613412259002118, -0.013725429297341663],
-            cutoff: [33, 7],
-        },
-        _ => Poles {
-            count: 2,
-            pole: [-0.43057534709997825, -0.04309628820326328],
-            cutoff: [40, 10],
-        },
+        2 => &[Pole {
+            z: -0.1715728752538097,
+            cutoff: 19,
+        }],
+        3 => &[Pole {
+            z: -0.2679491924311228,
+            cutoff: 25,
+        }],
+        4 => &[
+            Pole {
+                z: -0.3613412259002118,
+                cutoff: 33,
+            },
+            Pole {
+                z: -0.013725429297341663,
+                cutoff: 7,
+            },
+        ],
+        _ => &[
+            Pole {
+                z: -0.43057534709997825,
+                cutoff: 40,
+            },
+            Pole {
+                z: -0.04309628820326328,
+                cutoff: 10,
+            },
+        ],
     }
 }
 
@@ -62,6 +68,7 @@ pub fn powi(x: f64, n: usize) -> f64
     let mut r = 1.0;
     let mut a = x;
     let mut b = n;
+    // halved from turn to turn, and no index
     while b > 0 {
         if b % 2 == 1 {
             r = r * a;

@@ -10,7 +10,8 @@ use lib.Seq.{length-take-le, take_all, take_at, drop_at, take-add, drop-drop}
 use lib.Ieee.{Float}
 use Rattle.lists.proofs.Stretches.{next, part_length}
 use Rattle.lanes.specs.Along.{filter_along}
-use Rattle.lanes.specs.Bookkeeping.{Grid}
+use Rattle.lanes.specs.declared.Grid.{Grid}
+use Rattle.lanes.specs.Bookkeeping.{Fills}
 use Rattle.lanes.proofs.Grids.{stride_some}
 use Rattle.lanes.proofs.Alongs.{length-along, along_part}
 
@@ -50,22 +51,22 @@ module _ (new old xs : List Float) (a w : ℕ) (same : length new ≡ length old
       rw (front, still_old, drop-drop, take-add) (sym (append_assoc (take a new) (take w (drop a new)) (drop (a + w) old)))
 
 -- a block is whole lanes, so it is filtered by itself
-pub whole : {lanes n step stride count : ℕ} → Grid lanes n step stride count → (k : ℕ) × (lanes * n ≡ k * (n * stride))
-whole {lanes} {n} g = elim g.lie [
-  | inl e ↦ (1, rw e.1 (omega (arith, mul_comm lanes n)))
-  | inr e ↦ (lanes, rw (e.1, mul-one) refl)
+pub whole : {grid : Grid} {count : ℕ} → Fills grid count → (k : ℕ) × (grid.lanes * grid.size ≡ k * (grid.size * grid.stride))
+whole {grid} g = elim g.lie [
+  | inl e ↦ (1, rw e.1 (omega (arith, mul_comm grid.lanes grid.size)))
+  | inr e ↦ (grid.lanes, rw (e.1, mul-one) refl)
 ]
 
-module _ {lanes n step stride count : ℕ} (g : Grid lanes n step stride count) (f : List Float → List Float) where
+module _ {grid : Grid} {count : ℕ} (g : Fills grid count) (f : List Float → List Float) where
   -- one block more; k is the code's word for the block's length
   pub next_block :
-      (old xs ys : List Float) (i k : ℕ) → k ≡ lanes * n → i * (lanes * n) + lanes * n ≤ length old → xs ≡ up_to (i * (lanes * n)) (filter_along f n stride old) old → ys ≡ filter_along f n stride (take k (drop (i * (lanes * n)) xs)) →
-      take (i * (lanes * n)) xs ++ (ys ++ drop k (drop (i * (lanes * n)) xs)) ≡ up_to ((i + 1) * (lanes * n)) (filter_along f n stride old) old
+      (old xs ys : List Float) (i k : ℕ) → k ≡ grid.lanes * grid.size → i * (grid.lanes * grid.size) + grid.lanes * grid.size ≤ length old → xs ≡ up_to (i * (grid.lanes * grid.size)) (filter_along f grid.size grid.stride old) old → ys ≡ filter_along f grid.size grid.stride (take k (drop (i * (grid.lanes * grid.size)) xs)) →
+      take (i * (grid.lanes * grid.size)) xs ++ (ys ++ drop k (drop (i * (grid.lanes * grid.size)) xs)) ≡ up_to ((i + 1) * (grid.lanes * grid.size)) (filter_along f grid.size grid.stride old) old
   next_block old xs ys i k ek fits is e =
-      let w = lanes * n in
-      let new = filter_along f n stride old in
+      let w = grid.lanes * grid.size in
+      let new = filter_along f grid.size grid.stride old in
       let b = whole g in
-      let same : length new ≡ length old = length-along f n stride old in
+      let same : length new ≡ length old = length-along f grid.size grid.stride old in
       let block : ys ≡ take w (drop (i * w) new) =
-      e ∙ rw (ek, still_old new old xs (i * w) w same fits is) (along_part f n stride old i b.0 w (omega (arith, g.least)) (stride_some g) b.1 fits) in
+      e ∙ rw (ek, still_old new old xs (i * w) w same fits is) (along_part f grid.size grid.stride old i b.0 w (omega (arith, g.least)) (stride_some g) b.1 fits) in
       rw (block, ek, next) (up_to_more new old xs (i * w) w same fits is)

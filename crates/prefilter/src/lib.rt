@@ -3,72 +3,84 @@
 
 ghost use Rattle.std.specs.Prelude.{◌≡◌, false, ◌*◌, ◌≤◌, length};
 ghost use Rattle.limits.specs.Limits.{single};
-ghost use Rattle.lane.specs.Lane.{reflects, filter_lane};
-ghost use Rattle.poles.specs.Bookkeeping.{poles_in, Sound};
+ghost use Rattle.lane.specs.Lane.{reflects};
+ghost use Rattle.lane.specs.Bookkeeping.{filter_by};
 ghost use Rattle.lanes.specs.Along.{filter_along};
-ghost use Rattle.prefilter.specs.Volume.{length_of, filter_axis, filter_volume};
+ghost use Rattle.prefilter.specs.Volume.{length_of, stride_of, count_of, filter_axis, filter_volume};
 ghost use Rattle.prefilter.specs.Bookkeeping.{Sized};
-ghost use Rattle.lanes.specs.Bookkeeping.{Grid};
+ghost use Rattle.lanes.specs.Bookkeeping.{Fills};
 
 use border::BorderMode;
-use lanes::filter_lanes;
+use lane::Filter;
+use lanes::{Grid, filter_lanes};
 use limits::{LONGEST_PADDED, is_single};
-use poles::{Poles, filter_gain, get_filter_poles};
+use poles::{filter_gain, get_filter_poles};
 
 // Whether the lane filter has the reflect starts.
 fn reflects(mode: BorderMode) -> bool
     ensures { result ≡ reflects mode }
 {
-    match mode {
-        BorderMode::Constant(_) => false,
-        BorderMode::Mirror => false,
-        BorderMode::Nearest => true,
-        BorderMode::Reflect => true,
-        BorderMode::Wrap => false,
-        BorderMode::Replicate => true,
-    }
+    matches!(
+        mode,
+        BorderMode::Nearest | BorderMode::Reflect | BorderMode::Replicate
+    )
 }
 
 // Blocks that lanes fill, one after another.
-fn filter_blocks(
-    data: &mut [f64],
-    blocks: usize,
-    lanes: usize,
-    step: usize,
-    stride: usize,
-    n: usize,
-    p: Poles,
-    gain: f64,
-    reflect: bool,
-)
-    requires grid { Grid lanes n step stride (lanes * n) }
-    requires le_blocks { (1 ≤ blocks) × (length «data».old ≡ blocks * (lanes * n)) }
-    requires sound { Sound p }
-    ensures { «data».new ≡ filter_along (filter_lane reflect (poles_in p) gain) n stride «data».old }
+fn filter_blocks(data: &mut [f64], blocks: usize, grid: Grid, filter: Filter)
+    requires fills { Fills grid (grid.lanes * grid.size) }
+    requires le_blocks { (1 ≤ blocks) × (length «data».old ≡ blocks * (grid.lanes * grid.size)) }
+    ensures { «data».new ≡ filter_along (filter_by filter) grid.size grid.stride «data».old }
 {
-    let mut a = [0.0; LONGEST_PADDED];
-    let mut b = [0.0; LONGEST_PADDED];
-    let mut c = [0.0; LONGEST_PADDED];
-    let mut d = [0.0; LONGEST_PADDED];
-    let block = lanes * n;
-    let mut i = 0;
-    while i < blocks {
+    let mut lines = [[0.0; LONGEST_PADDED]; 4];
+    let block = grid.lanes * grid.size;
+    // no `chunks_mut`: of what it lent a proof knows only the length
+    for i in 0..blocks {
         let s = i * block;
-        filter_lanes(
-            &mut data[s..s + block],
-            &mut a,
-            &mut b,
-            &mut c,
-            &mut d,
-            lanes,
-            step,
-            stride,
-            n,
-            p,
-            gain,
-            reflect,
-        );
-        i += 1;
+        filter_lanes(&mut data[s..s + block], &mut lines, grid, filter);
+    }
+}
+
+// How many blocks the lanes along an axis fill, and how they lie in each.
+fn lanes_along(dims: [usize; 3], axis: usize) -> (usize, Grid)
+    requires sized { Sized dims (count_of dims) }
+    requires axis_bound { (axis ≤ 2) × (2 ≤ length_of axis dims) }
+    ensures fills { Fills result.1 (result.1.lanes * result.1.size) }
+    ensures blocks { (1 ≤ result.0) × (count_of dims ≡ result.0 * (result.1.lanes * result.1.size)) }
+    ensures along { (result.1.size ≡ length_of axis dims) × (result.1.stride ≡ stride_of axis dims) }
+{
+    let [planes, rows, row] = dims;
+    match axis {
+        // these lanes cross the planes
+        0 => (
+            1,
+            Grid {
+                lanes: rows * row,
+                size: planes,
+                step: 1,
+                stride: rows * row,
+            },
+        ),
+        // these lie in a plane, side by side
+        1 => (
+            planes,
+            Grid {
+                lanes: row,
+                size: rows,
+                step: 1,
+                stride: row,
+            },
+        ),
+        // these are a plane's rows
+        _ => (
+            planes,
+            Grid {
+                lanes: rows,
+                size: row,
+                step: row,
+                stride: 1,
+            },
+        ),
     }
 }
 
@@ -79,22 +91,13 @@ fn filter_long(data: &mut [f64], dims: [usize; 3], axis: usize, order: usize, mo
     requires le_order { (2 ≤ order) × (order ≤ 5) }
     ensures { «data».new ≡ filter_axis mode order dims axis «data».old }
 {
-    let p = get_filter_poles(order);
-    let gain = filter_gain(order);
-    let reflect = reflects(mode);
-    let plane = dims[1] * dims[2];
-    match axis {
-        // these lanes cross the planes
-        0 => filter_blocks(data, 1, plane, 1, plane, dims[0], p, gain, reflect),
-        // these lie in a plane, side by side
-        1 => filter_blocks(
-            data, dims[0], dims[2], 1, dims[2], dims[1], p, gain, reflect,
-        ),
-        // these are a plane's rows
-        _ => filter_blocks(
-            data, dims[0], dims[1], dims[2], 1, dims[2], p, gain, reflect,
-        ),
-    }
+    let (blocks, grid) = lanes_along(dims, axis);
+    let filter = Filter {
+        poles: get_filter_poles(order),
+        gain: filter_gain(order),
+        reflect: reflects(mode),
+    };
+    filter_blocks(data, blocks, grid, filter);
 }
 
 // The Rust's `_spline_filter1d`.
@@ -115,7 +118,7 @@ pub fn filter_volume(data: &mut [f64], dims: [usize; 3], order: usize, mode: Bor
     requires le_order { (2 ≤ order) × (order ≤ 5) }
     ensures { «data».new ≡ filter_volume mode order dims «data».old }
 {
-    filter_axis(data, dims, 0, order, mode);
-    filter_axis(data, dims, 1, order, mode);
-    filter_axis(data, dims, 2, order, mode);
+    for axis in 0..3 {
+        filter_axis(data, dims, axis, order, mode);
+    }
 }

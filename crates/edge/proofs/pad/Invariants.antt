@@ -1,11 +1,7 @@
 -- `edge::pad` meets its contract: the first i planes are those of the padded volume.
-use Prim.Native.Nat.{◌-◌, ◌≤◌}
-use lib.ListN.{length, get_or}
-use Rattle.edge.proofs.Edges.{Copied, in_plane, plane_of}
+use lib.ListN.{length}
+use Rattle.edge.proofs.Edges.{Copied, in_plane}
 use Rattle.edge.proofs.pad.Given as goal
 
 abbrev pub invariant-loop-i : goal.invariant-loop-i
-invariant-loop-i l = (l.i ≤ l.n) × Copied (get_or l.dims 0 0) (plane_of l.dims) l.wide (in_plane (get_or l.dims 1 0) (get_or l.dims 2 0)) l.from (length l.initial.to) l.i l.to
-
-abbrev pub decreases-loop-i : goal.decreases-loop-i
-decreases-loop-i l = l.n - l.i
+invariant-loop-i l = Copied l.planes l.plane l.wide (in_plane l.rows l.row) l.from (length l.initial.to) l.i l.to

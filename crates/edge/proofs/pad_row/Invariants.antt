@@ -1,6 +1,5 @@
 -- `edge::pad_row` meets its contract: the first k places are those of the padded row.
-use Prim.Native.Nat.{ℕ, ◌-◌, ◌≤◌}
-use mathlib.Core.Path.{◌≡◌}
+use Prim.Native.Nat.{ℕ}
 use lib.ListN.{length}
 use lib.Ieee.{nan}
 use Rattle.lists.specs.Bookkeeping.{Filled}
@@ -9,7 +8,4 @@ use Rattle.edge.specs.Edge.{clamped}
 use Rattle.edge.proofs.pad_row.Given as goal
 
 abbrev pub invariant-loop-k : goal.invariant-loop-k
-invariant-loop-k l = (l.k ≤ length l.to) × ((length l.to ≡ length l.initial.to) × Filled (λ (m : ℕ). at l.from (clamped (length l.from) m)) nan l.to l.k)
-
-abbrev pub decreases-loop-k : goal.decreases-loop-k
-decreases-loop-k l = length l.initial.to - l.k
+invariant-loop-k l = Filled (λ (m : ℕ). at l.from (clamped (length l.from) m)) nan l.to l.k

@@ -1,10 +1,10 @@
--- `lane::anticausal_pass` meets its contract, by the laws of one line.
-use Prim.Native.Nat.{◌<◌}
-use Rattle.lane.proofs.Passes.{Backward}
+-- `lane::anticausal_pass` meets its contract.
+use Prim.Native.Nat.{◌-◌}
+use mathlib.Core.Path.{◌≡◌}
+use mathlib.Core.List.{map}
+use Rattle.lane.specs.Bookkeeping.{lanes_in}
+use Rattle.lane.proofs.Passes.{backward}
 use Rattle.lane.proofs.anticausal_pass.Given as goal
 
 abbrev pub invariant-loop-i : goal.invariant-loop-i
-invariant-loop-i l = (l.i < l.n) × (Backward l.n l.z l.initial.a l.a l.i × (Backward l.n l.z l.initial.b l.b l.i × (Backward l.n l.z l.initial.c l.c l.i × Backward l.n l.z l.initial.d l.d l.i)))
-
-abbrev pub decreases-loop-i : goal.decreases-loop-i
-decreases-loop-i l = l.i
+invariant-loop-i l = lanes_in l.n l.lines ≡ map (backward l.z l.n (l.n - 1 - l.i)) (lanes_in l.n l.initial.lines)

@@ -1,16 +1,13 @@
 -- `lane::init_causal_mirror` meets its contract.
 use lib.Ieee.{of_bits, of_int}
-use Rattle.lane.proofs.Starts.{mirror_near, mirror_whole}
-use native.Mathlib.Omega.{arith}
+use borrow.Author.Tests.{lt-ltb, le-ltb}
+use Rattle.lane.specs.Lane.{init_causal_mirror}
 use Rattle.lane.proofs.init_causal_mirror.Goals as goal
 
-pub returns-then-cutoff-n : goal.returns-then-cutoff-n
-returns-then-cutoff-n c =
-    let a = c.args in
-    mirror_near a.z a.n a.line.now (omega arith) a.cutoff c.near_sum.result (omega arith) c.near_sum.ensures
+pub returns-then-pole-lane : goal.returns-then-pole-lane
+unfolding init_causal_mirror
+returns-then-pole-lane c = rw (lt-ltb _ _ c.if-pole-lane.true) c.near_sum.ensures
 
 pub returns : goal.returns
-unfolding of_bits of_int
-returns c =
-    let a = c.args in
-    mirror_whole a.z a.n a.line.now (omega arith) a.cutoff c.powi-z_n_1.result c.whole_sum.result (omega arith) c.powi-z_n_1.ensures c.whole_sum.ensures
+unfolding init_causal_mirror of_bits of_int
+returns c = rw (le-ltb _ _ c.if-pole-lane.false, ← c.powi-z_n_1.ensures, ← c.whole_sum.ensures)

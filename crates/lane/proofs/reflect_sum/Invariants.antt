@@ -1,12 +1,8 @@
 -- `lane::reflect_sum` meets its contract.
-use Prim.Native.Nat.{◌≤◌, ◌-◌}
+use Prim.Native.Nat.{◌-◌}
 use mathlib.Core.Path.{◌≡◌}
-use lib.ListN.{take}
 use Rattle.lane.specs.Lane.{running, reflect_sum}
 use Rattle.lane.proofs.reflect_sum.Given as goal
 
 abbrev pub invariant-loop-i : goal.invariant-loop-i
-invariant-loop-i l = ((1 ≤ l.i) × (l.i ≤ l.n - 1)) × ((l.z_i ≡ running l.z (l.i - 1)) × (l.sum ≡ reflect_sum l.z (take l.n l.line) (l.i - 1)))
-
-abbrev pub decreases-loop-i : goal.decreases-loop-i
-decreases-loop-i l = l.n - l.i
+invariant-loop-i l = (l.z_i ≡ running l.z (l.i - 1)) × (l.sum ≡ reflect_sum l.z l.lane (l.i - 1))

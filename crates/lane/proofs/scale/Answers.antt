@@ -1,21 +1,15 @@
 -- `lane::scale` meets its contract.
-use native.Mathlib.Omega.{arith}
-use mathlib.Core.Path.{◌≡◌}
-use Rattle.lane.proofs.Passes.{scale_start, scale_turn, scale_end}
+use mathlib.Core.Path.{◌∙◌}
+use lib.Seq.{take_at}
+use lib.Ieee.{nan}
+use lib.Seq.{length-take-le}
+use Rattle.lane.proofs.Lines.{through_more, through_all}
 use Rattle.lane.proofs.scale.Goals as goal
 
-pub loop-i-init : goal.loop-i-init
-loop-i-init c = (omega arith, scale_start c.args.gain c.args.line.now)
-
-pub loop-i-preserved : goal.loop-i-preserved
-loop-i-preserved c =
-    let a = c.args in
-    let at = c.loop-i in
-    (omega arith, scale_turn a.n a.gain a.line.now c.requires at.line at.i (omega arith) at.invariant.1)
+pub loop-x-preserved : goal.loop-x-preserved
+loop-x-preserved c = through_more _ nan c.loop-x-test.true c.loop-x.invariant
 
 pub returns : goal.returns
 returns c =
     let a = c.args in
-    let at = c.loop-i in
-    let e : at.i ≡ a.n = omega arith in
-    scale_end a.n a.gain a.line.now c.requires at.line (rw e at at.invariant.1)
+    take_at c.loop-x.x-items _ a.n (c.loop-x.auto.x-items ∙ length-take-le a.n a.line.now c.requires) ∙ through_all _ c.loop-x-test.false c.loop-x.invariant

@@ -1,5 +1,19 @@
 -- `lane::start_anticausals` meets its contract.
+use native.Mathlib.Omega.{arith}
+use lib.ListN.{take, length-map}
+use Rattle.lane.proofs.Lines.{through_none, through_all, lines_length, lane_more, room_more}
 use Rattle.lane.proofs.start_anticausals.Goals as goal
 
+pub loop-line-init : goal.loop-line-init
+loop-line-init c = (through_none _ _, λ m d h. absurd (omega arith))
+
+pub loop-line-preserved : goal.loop-line-preserved
+loop-line-preserved c =
+    let at = c.loop-line.invariant in
+    let done = c.start_anticausal.ensures in
+    (lane_more _ _ _ _ _ _ (omega arith) done.after at.0, room_more _ _ _ _ (omega (arith, lines_length _ _ _ at.0)) done.room at.1)
+
 pub returns : goal.returns
-returns c = record { a_after = c.start_anticausal.ensures; b_after = c.start_anticausal-2.ensures; c_after = c.start_anticausal-3.ensures; d_after = c.start_anticausal-4.ensures }
+returns c =
+    let at = c.loop-line.invariant in
+    record { after = through_all _ (omega (arith, length-map c.args.lines.now (take c.args.n))) at.0; room = λ k d h. at.1 k d (omega (arith, lines_length _ _ _ at.0)) }

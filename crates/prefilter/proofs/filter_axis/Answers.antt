@@ -5,6 +5,3 @@ use Rattle.prefilter.proofs.filter_axis.Goals as goal
 
 pub returns-then-is_single : goal.returns-then-is_single
 returns-then-is_single c = let a = c.args in sym (along-single a.mode a.order a.dims a.axis a.«data».now (sym c.is_single.ensures ∙ c.if-is_single.true))
-
-pub filter_long-requires : goal.filter_long-requires
-filter_long-requires c = record { sized = c.requires.sized; axis_bound = (c.requires.axis_bound, sym c.is_single.ensures ∙ c.if-is_single.false); le_order = c.requires.le_order }
