@@ -1,4 +1,5 @@
-// The text of a header, read over a slice and a place. The end of the text also says that it is no such text.
+// The text of a header, read over a slice and a place, as document 02 asks. The end of the text also says that it is no
+// such text.
 ghost use Rattle.std.specs.Prelude.{◌≡◌, drop};
 ghost use Rattle.npy.specs.Header.{first_length, next_length, after_shape, lengths_in, after_key, key_at, value_at, after_value, after_entry, first_entry, next_entry, after_comma, closes, each_once, is_header, shape_entry, lengths_of};
 ghost use Rattle.npy.specs.Bookkeeping.{header_in};

@@ -25,6 +25,7 @@ impl Model for Draft {
     ghost invariant = { λ h. h.end ≤ 128 };
 }
 
+// A byte, where the library's `from_digit` gives a char.
 fn digit_of(n: usize) -> u8
     ensures { result ≡ digit n }
 {

@@ -1,4 +1,4 @@
-// The request that a caller's numbers make.
+// The request that a caller's numbers make: C hands them on one by one, and a mode as its number.
 ghost use Rattle.std.specs.Prelude.{◌≡◌, cond, Some, None};
 ghost use Rattle.numbers.specs.Numbers.{is_mode, mode_of, request_of, plain_request_of};
 
@@ -31,6 +31,7 @@ pub fn mode_in(mode: u32, fill: f64) -> Option<BorderMode>
     is_mode(mode).then(|| mode_of(mode, fill))
 }
 
+// Of any number, as a file of recorded calls has them.
 pub fn request_of(
     d0: usize,
     d1: usize,

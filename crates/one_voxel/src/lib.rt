@@ -20,6 +20,7 @@ pub mod point;
 mod sum;
 mod value;
 
+// The code is the byte that the caller is lent.
 #[derive(Clone, Copy)]
 pub struct Voxel {
     pub value: f64,
@@ -50,6 +51,7 @@ fn put(value: &mut [f64], code: &mut [u8], v: Voxel)
     code[0] = v.code;
 }
 
+// Each entry has its checks and its axes; `voxel_of` and `put` are for both.
 pub fn shift_voxel(
     r: Request,
     input: &[f64],

@@ -31,6 +31,7 @@ fn put_point(
     weight.copy_from_slice(&p.weight);
 }
 
+// Each entry has its checks and its axis; `put_point` is for both. C hands on the numbers one by one.
 pub fn shift_point(
     length: usize,
     shift: f64,

@@ -16,7 +16,8 @@ pub fn phantom() -> [f64; VOXELS] {
     array::from_fn(number_at)
 }
 
-// Whether a voxel is, as a number, the one at `source`, with code 0; or the fill, with code 1.
+// Whether a voxel is, as a number, the one at `source`, with code 0; or the fill, with code 1: the bytes
+// that the entry wrote.
 fn is_moved(value: f64, code: u8, before: &[f64], source: Option<usize>) -> bool {
     match source.and_then(|place| before.get(place)) {
         Some(was) => code == 0 && value == *was,

@@ -34,7 +34,7 @@ pub struct Call<'a> {
     pub words: Words<'a>,
 }
 
-// What a call answered, and what it left in the buffers.
+// What a call answered, and what it left in the buffers, each as the entries are lent it.
 #[derive(Drop)]
 pub struct Made {
     pub answer: Result<Counts, Refusal>,

@@ -66,7 +66,7 @@ fn places_of(asked: Asked, count: usize) -> usize
     }
 }
 
-// Refusals 6 to 9 of shift and zoom.
+// Refusals 6 to 9 of shift and zoom. Lengths and counts stand one by one, as in the list of checks.
 fn resample_verdict(
     asked: Asked,
     r: Request,
@@ -96,6 +96,7 @@ fn resample_verdict(
     refuse_if(beside_any(r, a), Refusal::Beside)
 }
 
+// Shift and zoom have a list of checks each; what the lists share is `resample_verdict`.
 pub fn shift_verdict(
     asked: Asked,
     r: Request,
@@ -152,6 +153,7 @@ fn index_verdict(out: [usize; 3], at: [usize; 3]) -> Result<(), Refusal>
     refuse_if(bad_indices(out, at), Refusal::Index)
 }
 
+// Each list again, and one check more; `value` and `code` are lengths.
 pub fn shift_voxel_verdict(
     r: Request,
     input: &[f64],

@@ -21,7 +21,7 @@ struct Asked<'a> {
     work: &'a [f64],
 }
 
-// The answer for a voxel, and what the places of value and code hold after it.
+// The answer for a voxel, and what the places of value and code hold after it: a byte, as they are lent.
 #[derive(Clone, Copy)]
 struct Told {
     answer: Result<(), Refusal>,

@@ -72,6 +72,7 @@ pub fn zoom_dims(r: Request) -> [usize; 3]
     ]
 }
 
+// Two maps on each axis; what they share is the record that they make.
 pub fn shift_axes(r: Request) -> Axes
     requires { Lengths r.dims }
     ensures { result ≡ shift_axes r }

@@ -8,7 +8,7 @@ ghost use Rattle.text.specs.Text.{is_of, is_quote, past, is_at, expect, literal,
 
 pub mod numeral;
 
-// Signs that are passed over together.
+// Signs that are passed over together. A predicate in its place would ask each caller for a closure and its clauses.
 #[derive(Clone, Copy)]
 pub enum Kind {
     // a space or a tab
