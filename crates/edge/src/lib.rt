@@ -62,11 +62,3 @@ pub fn pad(to: &mut [f64], from: &[f64], dims: [usize; 3])
         pad_plane(&mut to[t..t + wide], &from[s..s + plane], rows, row);
     }
 }
-
-// The input, into a buffer of the same length.
-pub fn copy(to: &mut [f64], from: &[f64])
-    requires { length to.old ≡ length from.now }
-    ensures { to.new ≡ from.now }
-{
-    to.copy_from_slice(from);
-}

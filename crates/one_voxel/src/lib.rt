@@ -34,12 +34,8 @@ pub fn voxel_of(r: Request, a: Axes, input: &[f64], work: &[f64], at: [usize; 3]
     requires inside { Inside a at }
     ensures { result ≡ voxel_of r a input.now work.now at }
 {
-    let mode = r.mode;
-    let x = a.x;
-    let y = a.y;
-    let z = a.z;
     let value = value_of(r, a, input, work, at);
-    let code = own_code(x, y, z, r.order, mode, at[0], at[1], at[2]);
+    let code = own_code(a.x, a.y, a.z, r.order, r.mode, at[0], at[1], at[2]);
     Voxel { value, code }
 }
 

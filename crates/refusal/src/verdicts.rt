@@ -52,8 +52,8 @@ fn wild_any(mode: BorderMode, input: &[f64]) -> bool
 fn beside_any(r: Request, a: Axes) -> bool
     ensures { result ≡ beside_any r a }
 {
-    let mode = r.mode;
-    r.order == 0 && (some_beside(a.x, mode) || some_beside(a.y, mode) || some_beside(a.z, mode))
+    r.order == 0
+        && (some_beside(a.x, r.mode) || some_beside(a.y, r.mode) || some_beside(a.z, r.mode))
 }
 
 // How many places are lent for values, and as many for codes; `count` is the output's.
@@ -81,9 +81,7 @@ fn resample_verdict(
     requires lengths_2 { Lengths out }
     ensures { result ≡ first (resample_checks asked r input.now output coverage work out a) }
 {
-    let dims = r.dims;
-    let mode = r.mode;
-    let count = count_of(dims);
+    let count = count_of(r.dims);
     let wanted = count_of(out);
     let need = needed(r);
     refuse_if(some_too_large(count, wanted, need), Refusal::Count)?;
@@ -92,7 +90,7 @@ fn resample_verdict(
         some_wrong(input.len(), count, output, coverage, places, work, need),
         Refusal::Buffer,
     )?;
-    refuse_if(wild_any(mode, input), Refusal::Value)?;
+    refuse_if(wild_any(r.mode, input), Refusal::Value)?;
     refuse_if(beside_any(r, a), Refusal::Beside)
 }
 
@@ -107,13 +105,20 @@ pub fn shift_verdict(
 ) -> Result<(), Refusal>
     ensures { result ≡ first (shift_checks asked r input.now output coverage work) }
 {
-    let dims = r.dims;
-    let factors = r.factors;
     refuse_if(r.order > 5, Refusal::Order)?;
-    refuse_if(bad_lengths(dims), Refusal::Length)?;
-    refuse_if(bad_shifts(factors), Refusal::Factor)?;
-    refuse_if(moves_slices(dims, factors), Refusal::Slice)?;
-    resample_verdict(asked, r, input, output, coverage, work, dims, shift_axes(r))
+    refuse_if(bad_lengths(r.dims), Refusal::Length)?;
+    refuse_if(bad_shifts(r.factors), Refusal::Factor)?;
+    refuse_if(moves_slices(r.dims, r.factors), Refusal::Slice)?;
+    resample_verdict(
+        asked,
+        r,
+        input,
+        output,
+        coverage,
+        work,
+        r.dims,
+        shift_axes(r),
+    )
 }
 
 pub fn zoom_verdict(
@@ -126,14 +131,12 @@ pub fn zoom_verdict(
 ) -> Result<(), Refusal>
     ensures { result ≡ first (zoom_checks asked r input.now output coverage work) }
 {
-    let dims = r.dims;
-    let factors = r.factors;
     refuse_if(r.order > 5, Refusal::Order)?;
-    refuse_if(bad_lengths(dims), Refusal::Length)?;
-    refuse_if(bad_zooms(factors), Refusal::Factor)?;
+    refuse_if(bad_lengths(r.dims), Refusal::Length)?;
+    refuse_if(bad_zooms(r.factors), Refusal::Factor)?;
     let out = zoom_dims(r);
-    refuse_if(zooms_slices(dims, out), Refusal::Slice)?;
-    refuse_if(bad_outputs(dims, out), Refusal::OutputLength)?;
+    refuse_if(zooms_slices(r.dims, out), Refusal::Slice)?;
+    refuse_if(bad_outputs(r.dims, out), Refusal::OutputLength)?;
     resample_verdict(
         asked,
         r,
@@ -164,9 +167,8 @@ pub fn shift_voxel_verdict(
 ) -> Result<(), Refusal>
     ensures { result ≡ first (shift_voxel_checks r input.now value code work at) }
 {
-    let dims = r.dims;
     shift_verdict(Asked::Voxel, r, input, value, code, work)?;
-    index_verdict(dims, at)
+    index_verdict(r.dims, at)
 }
 
 pub fn zoom_voxel_verdict(
@@ -187,13 +189,11 @@ pub fn zoom_voxel_verdict(
 fn filter_verdict(r: Request, input: &[f64], output: usize) -> Result<(), Refusal>
     ensures { result ≡ first (filter_checks r input.now output) }
 {
-    let dims = r.dims;
-    let mode = r.mode;
-    refuse_if(bad_lengths(dims), Refusal::Length)?;
-    let count = count_of(dims);
+    refuse_if(bad_lengths(r.dims), Refusal::Length)?;
+    let count = count_of(r.dims);
     refuse_if(too_large(count), Refusal::Count)?;
     refuse_if(input.len() != count || output != count, Refusal::Buffer)?;
-    refuse_if(wild_any(mode, input), Refusal::Value)
+    refuse_if(wild_any(r.mode, input), Refusal::Value)
 }
 
 pub fn spline_filter_verdict(r: Request, input: &[f64], output: usize) -> Result<(), Refusal>

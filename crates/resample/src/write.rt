@@ -11,7 +11,7 @@ ghost use Rattle.resample.specs.Call.{source_of, coefficients, call_of, values_o
 use axis::coordinate::has_pad;
 use coverage::counts::{Counts, count_codes};
 use coverage::cover::cover;
-use edge::{copy, pad};
+use edge::pad;
 use prefilter::filter_volume;
 use request::sizes::{filters, needed, source_dims};
 use request::{Axes, Request};
@@ -23,12 +23,10 @@ fn take_source(work: &mut [f64], input: &[f64], r: Request)
     requires input_len { (length input.now ≡ count_of r.dims) × (length work.old ≡ count_of (source_dims r)) }
     ensures { work.new ≡ source_of r input.now }
 {
-    let dims = r.dims;
-    let mode = r.mode;
-    if has_pad(mode, r.prefilter, r.order) {
-        pad(work, input, dims);
+    if has_pad(r.mode, r.prefilter, r.order) {
+        pad(work, input, r.dims);
     } else {
-        copy(work, input);
+        work.copy_from_slice(input);
     }
 }
 
@@ -39,9 +37,8 @@ fn prepare(work: &mut [f64], input: &[f64], r: Request)
     requires input_len { (length input.now ≡ count_of r.dims) × (length work.old ≡ count_of (source_dims r)) }
     ensures { work.new ≡ coefficients r input.now }
 {
-    let mode = r.mode;
     take_source(work, input, r);
-    filter_volume(work, source_dims(r), r.order, mode);
+    filter_volume(work, source_dims(r), r.order, r.mode);
 }
 
 // The values from the coefficients, which then stand in work.
@@ -52,12 +49,8 @@ fn write_filtered(r: Request, a: Axes, input: &[f64], output: &mut [f64], work: 
     requires work_len { length work.old ≡ count_of (source_dims r) }
     ensures { (output.new ≡ values_of r a input.now) × (work.new ≡ coefficients r input.now) }
 {
-    let mode = r.mode;
-    let x = a.x;
-    let y = a.y;
-    let z = a.z;
     prepare(work, input, r);
-    sweep(output, work, x, y, z, r.order, mode);
+    sweep(output, work, a.x, a.y, a.z, r.order, r.mode);
 }
 
 // The values from the input itself.
@@ -67,11 +60,7 @@ fn write_plain(r: Request, a: Axes, input: &[f64], output: &mut [f64])
     requires output_len { length output.old ≡ a.x.out * (a.y.out * a.z.out) }
     ensures { output.new ≡ values_of r a input.now }
 {
-    let mode = r.mode;
-    let x = a.x;
-    let y = a.y;
-    let z = a.z;
-    sweep(output, input, x, y, z, r.order, mode);
+    sweep(output, input, a.x, a.y, a.z, r.order, r.mode);
 }
 
 fn write_values(r: Request, a: Axes, input: &[f64], output: &mut [f64], work: &mut [f64])
@@ -81,8 +70,7 @@ fn write_values(r: Request, a: Axes, input: &[f64], output: &mut [f64], work: &m
     ensures { (output.new ≡ values_of r a input.now) × (work.new ≡ work_after r input.now work.old) }
 {
     if filters(r) {
-        let need = needed(r);
-        write_filtered(r, a, input, output, &mut work[0..need]);
+        write_filtered(r, a, input, output, &mut work[..needed(r)]);
     } else {
         write_plain(r, a, input, output);
     }
@@ -95,11 +83,7 @@ fn write_codes(r: Request, a: Axes, coverage: &mut [u8]) -> Counts
     requires out_le_longest { (a.x.out ≤ longest) × ((a.y.out ≤ longest) × ((1 ≤ a.z.out) × (a.z.out ≤ longest))) }
     ensures { (coverage.new ≡ codes_of r a) × (result ≡ counts_of (codes_of r a)) }
 {
-    let mode = r.mode;
-    let x = a.x;
-    let y = a.y;
-    let z = a.z;
-    cover(coverage, x, y, z, r.order, mode);
+    cover(coverage, a.x, a.y, a.z, r.order, r.mode);
     count_codes(coverage)
 }
 

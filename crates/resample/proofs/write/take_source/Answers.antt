@@ -7,8 +7,8 @@ use Rattle.resample.proofs.write.take_source.Goals as goal
 pub pad-requires : goal.pad-requires
 pad-requires c = record { sized = sized c.args.r.dims _ c.requires.lengths c.requires.input_len.0; to_len = c.requires.input_len.1 ∙ padded_count c.args.r (sym c.has_pad.ensures ∙ c.if-has_pad.true) }
 
-pub copy-requires : goal.copy-requires
-copy-requires c =
+pub copy_from_slice-requires : goal.copy_from_slice-requires
+copy_from_slice-requires c =
     c.requires.input_len.1 ∙ plain_count c.args.r (sym c.has_pad.ensures ∙ c.if-has_pad.false) ∙ sym c.requires.input_len.0
 
 pub returns-then-has_pad : goal.returns-then-has_pad
@@ -19,4 +19,4 @@ returns-then-has_pad c =
 pub returns-else-has_pad : goal.returns-else-has_pad
 returns-else-has_pad c =
     let a = c.args in
-    c.copy.ensures ∙ source_plain a.r a.input.now (sym c.has_pad.ensures ∙ c.if-has_pad.false)
+    c.copy_from_slice.ensures.after ∙ source_plain a.r a.input.now (sym c.has_pad.ensures ∙ c.if-has_pad.false)

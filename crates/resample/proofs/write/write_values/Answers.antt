@@ -1,8 +1,7 @@
 -- `resample::write::write_values` meets its contract.
-use Prim.Native.Nat.{◌-◌}
-use mathlib.Core.Path.{◌≡◌, ◌∙◌, sym}
+use mathlib.Core.Path.{◌∙◌, sym}
 use native.Mathlib.Omega.{arith}
-use Rattle.lists.proofs.Stretches.{part_length}
+use Rattle.std.proofs.Common.{length-take-le}
 use Rattle.request.proofs.Requests.{needed_all}
 use Rattle.resample.proofs.Preparing.{work_begins, work_stays}
 use Rattle.resample.proofs.write.write_values.Goals as goal
@@ -10,8 +9,8 @@ use Rattle.resample.proofs.write.write_values.Goals as goal
 pub write_filtered-requires : goal.write_filtered-requires
 write_filtered-requires c =
     let f = sym c.filters.ensures ∙ c.if-filters.true in
-    let need = c.needed-need in
-    let n : need.result - 0 ≡ need.result = omega arith in record { r_value = f; admitted = c.requires.admitted; output_len = c.requires.output_len; work_len = part_length c.args.work.now 0 (need.result - 0) (omega (arith, need.ensures, c.requires.r_in_bounds)) ∙ n ∙ need.ensures ∙ needed_all c.args.r f }
+    let need = c.needed in
+    record { r_value = f; admitted = c.requires.admitted; output_len = c.requires.output_len; work_len = length-take-le need.result c.args.work.now (omega (arith, need.ensures, c.requires.r_in_bounds)) ∙ need.ensures ∙ needed_all c.args.r f }
 
 pub write_plain-requires : goal.write_plain-requires
 write_plain-requires c = record { r_value = sym c.filters.ensures ∙ c.if-filters.false; admitted = c.requires.admitted; output_len = c.requires.output_len }
@@ -20,9 +19,7 @@ pub returns-then-filters : goal.returns-then-filters
 returns-then-filters c =
     let a = c.args in
     let call = c.write_filtered in
-    let need = c.needed-need in
-    let n : need.result - 0 ≡ need.result = omega arith in
-    (call.ensures.0, work_begins a.r a.input.now a.work.now (sym c.filters.ensures ∙ c.if-filters.true) (n ∙ need.ensures) call.ensures.1)
+    (call.ensures.0, work_begins a.r a.input.now a.work.now (sym c.filters.ensures ∙ c.if-filters.true) c.needed.ensures call.ensures.1)
 
 pub returns-else-filters : goal.returns-else-filters
 returns-else-filters c =
