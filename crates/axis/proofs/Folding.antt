@@ -9,7 +9,8 @@ use Rattle.exact.specs.Floor.{floor_f}
 use Rattle.exact.proofs.Is.{lt_is, le_is}
 use Rattle.exact.proofs.Naturals.{num_is, plus, minus}
 use Rattle.lists.specs.Some.{some_below}
-use Rattle.lists.proofs.Somes.{some_none, none-at, some_found, or_false}
+use Rattle.lists.proofs.Somes.{some_none, none-at, some_found}
+use Rattle.std.proofs.lemmas.Bool.{or_parts}
 use Rattle.border.specs.declared.BorderMode.{BorderMode}
 use Rattle.axis.specs.declared.coordinate.Axis.{Axis}
 use Rattle.axis.specs.Coordinate.{settled, kept}
@@ -66,12 +67,12 @@ module _ {a : Axis} {length pad : ℕ} (b : Padded a length pad) where
 
   pub not_beyond : {x : Float} (z : ℤ) → Is x z → beyond a x ≡ false → InAxis length pad x
   not_beyond {x} (pos n) h e =
-      let o = or_false (ltb n pad) (leb (length + pad) n) (sym (beyond-at h) ∙ e) in
+      let o = or_parts (ltb n pad) (leb (length + pad) n) (sym (beyond-at h) ∙ e) in
       let low = ltb-false n pad o.0 in
       let high = leb-false (length + pad) n o.1 in
       let k : n ≡ pad + (n - pad) = omega arith in
       (n - pad, omega arith, subst (λ (m : ℕ). Is x (pos m)) k h)
-  not_beyond {x} (negsuc c) h e = absurd (true≢false (sym (lt_is h pad_is) ∙ (or_false (lt x a.pad) (le (num a.len ⊖ a.pad) x) e).0))
+  not_beyond {x} (negsuc c) h e = absurd (true≢false (sym (lt_is h pad_is) ∙ (or_parts (lt x a.pad) (le (num a.len ⊖ a.pad) x) e).0))
 
 -- ---- the neighbours of an output index
 and_true : (p q : Bool) → (p && q) ≡ true → (p ≡ true) × (q ≡ true)

@@ -12,7 +12,7 @@ use Rattle.exact.proofs.Naturals.{nat_abs-neg, num_is}
 use Rattle.exact.proofs.Withins.{within_mono, add_within}
 use Rattle.exact.proofs.Casts.{to_unsigned_is, unsigned_asks}
 use Rattle.exact.proofs.Above.{Above, floor_above, half_above}
-use Rattle.lists.proofs.Somes.{or_false}
+use Rattle.std.proofs.lemmas.Bool.{or_parts}
 use Rattle.border.specs.declared.BorderMode.{BorderMode}
 use Rattle.border.specs.declared.BorderMode.TheVariants.{Constant, Mirror, Nearest, Reflect, Wrap, Replicate}
 use Rattle.border.specs.Fold.{fold}
@@ -116,7 +116,7 @@ pub neighbour_stands :
 neighbour_stands order L to k o top w above l e =
     let f = first_is order to o w above in
     let first = first_neighbour order to in
-    let within = or_false (lt first (num 0)) (le (num L) (first ⊕ num order)) e in
+    let within = or_parts (lt first (num 0)) (le (num L) (first ⊕ num order)) e in
     plain_inside first f.0 (1 + order / 2) f.1 (omega arith) f.2 order k L o l top within.0 within.1
 
 -- ---- the theorem: on an axis of 2 voxels or more, and on any axis where none lies outside
@@ -128,7 +128,7 @@ neighbour_inside order mode L to k o two top w above l =
     let f = first_is order to o w above in
     let first = first_neighbour order to in
     let small : 1 + order / 2 ≤ 3 = omega arith in
-    go (outside order L first) two (or_false (lt first (num 0)) (le (num L) (first ⊕ num order))) (λ more. folded_inside first f.0 (1 + order / 2) f.1 small f.2 mode k L (le_trans l o) more top)
+    go (outside order L first) two (or_parts (lt first (num 0)) (le (num L) (first ⊕ num order))) (λ more. folded_inside first f.0 (1 + order / 2) f.1 small f.2 mode k L (le_trans l o) more top)
     (λ p q. plain_inside first f.0 (1 + order / 2) f.1 small f.2 order k L o l top p q)
   where
     go : (t : Bool) {x y : Float} → (t ≡ true → 2 ≤ L) → (t ≡ false → (lt (first_neighbour order to) (num 0) ≡ false) × (le (num L) (first_neighbour order to ⊕ num order) ≡ false)) → (2 ≤ L → (i : ℕ) × (i < L) × Is x (pos i))

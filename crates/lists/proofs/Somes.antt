@@ -7,16 +7,8 @@ use mathlib.Core.Logic.{inl, inr}
 use mathlib.Core.Bool.{Bool, true, false, ◌||◌, true≢false}
 use Rattle.std.specs.List.{list_any, range_with_len}
 use Rattle.std.proofs.Math.Bool.{or-false, or_assoc}
+use Rattle.std.proofs.lemmas.Bool.{or_right}
 use Rattle.lists.specs.Some.{some_below}
-
-or_true : (b : Bool) → (b || true) ≡ true
-or_true true = refl
-or_true false = refl
-
--- of two tests neither holds
-pub or_false : (a b : Bool) → (a || b) ≡ false → (a ≡ false) × (b ≡ false)
-or_false true b e = absurd (true≢false e)
-or_false false b e = (refl, e)
 
 pub some_none : (test : ℕ → Bool) (n : ℕ) → ((i : ℕ) → i < n → test i ≡ false) → some_below test n ≡ false
 unfolding some_below
@@ -28,7 +20,7 @@ unfolding some_below
 some_at test zero i l e = absurd (not-suc-le-zero l)
 some_at test (suc n) i l e =
     elim (eq-or-lt_of_le (le_of_suc-le-suc l)) [
-      | inl q ↦ ap (λ (b : Bool). some_below test n || b) (subst (λ (j : ℕ). test j ≡ true) q e) ∙ or_true (some_below test n)
+      | inl q ↦ ap (λ (b : Bool). some_below test n || b) (subst (λ (j : ℕ). test j ≡ true) q e) ∙ or_right (some_below test n) true refl
       | inr k ↦ ap (λ (b : Bool). b || test n) (some_at test n i k e)
     ]
 

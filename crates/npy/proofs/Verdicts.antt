@@ -9,7 +9,7 @@ use Rattle.limits.specs.Limits.{most_places}
 use Rattle.prefilter.specs.Volume.{count_of}
 use Rattle.request.specs.Conditions.{wrong}
 use Rattle.request.specs.Bookkeeping.{Small, Lengths}
-use Rattle.lists.proofs.Somes.{or_false}
+use Rattle.std.proofs.lemmas.Bool.{or_parts}
 use Rattle.request.proofs.Requests.{small, good_lengths}
 use Rattle.refusal.specs.declared.Refusal.{Refusal}
 use Rattle.refusal.specs.declared.Refusal.TheVariants.{NotNpy, Buffer}
@@ -80,5 +80,5 @@ pub record Writes (d : List ℕ) (volume bytes : ℕ) : Type 0 where
 pub write_clear : (d : List ℕ) (volume bytes : ℕ) → first (write_checks d volume bytes) ≡ Ok tt → Writes d volume bytes
 write_clear d volume bytes v =
     let h = all_clear (write_checks d volume bytes) v in
-    let neither = or_false (wrong volume (count_of d)) (wrong bytes (size_of d)) h.1.1.0 in
+    let neither = or_parts (wrong volume (count_of d)) (wrong bytes (size_of d)) h.1.1.0 in
     record { lengths = good_lengths d h.0; voxels = same_count volume (count_of d) neither.0; size = same_count bytes (size_of d) neither.1 }

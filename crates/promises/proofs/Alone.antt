@@ -10,7 +10,8 @@ use lib.ListN.{length, get_or}
 use lib.Ieee.{Float}
 use borrow.Author.Tests.{eq-eqb, le-ltb, lt-leb, leb-true, le-leb}
 use Rattle.lists.specs.Some.{some_below}
-use Rattle.lists.proofs.Somes.{some_none, some_at, some_found, or_false}
+use Rattle.lists.proofs.Somes.{some_none, some_at, some_found}
+use Rattle.std.proofs.lemmas.Bool.{or_parts}
 use Rattle.prefilter.specs.Volume.{count_of}
 use Rattle.request.specs.declared.Request.{Request}
 use Rattle.request.specs.Sizes.{filters, needed, zoom_dims}
@@ -84,9 +85,9 @@ module _ (r : Request) (input : List Float) (output coverage work : ℕ) (value 
   -- refusal 7: the input as before, the others by what is known
   buffers : (places : ℕ) → (wrong (length input) (count_of r.dims) || wrong output places || wrong coverage places || too_short work (needed r)) ≡ false → (wrong (length input) (count_of r.dims) || wrong value 1 || wrong code 1 || too_short lent (needed r)) ≡ false
   buffers places e =
-      let w = or_false (wrong (length input) (count_of r.dims) || wrong output places || wrong coverage places) (too_short work (needed r)) e in
-      let c = or_false (wrong (length input) (count_of r.dims) || wrong output places) (wrong coverage places) w.0 in
-      let i = (or_false (wrong (length input) (count_of r.dims)) (wrong output places) c.0).0 in
+      let w = or_parts (wrong (length input) (count_of r.dims) || wrong output places || wrong coverage places) (too_short work (needed r)) e in
+      let c = or_parts (wrong (length input) (count_of r.dims) || wrong output places) (wrong coverage places) w.0 in
+      let i = (or_parts (wrong (length input) (count_of r.dims)) (wrong output places) c.0).0 in
       simp (i, one_place one, one_place one', le-ltb lent (needed r) room)
 
   taken : (e : Entry) (i j k : ℕ) → Inside (output_dims e r) i j k → first (checks e r input output coverage work) ≡ Ok tt → first (voxel_checks e r input value code lent (i ∷ j ∷ k ∷ [])) ≡ Ok tt

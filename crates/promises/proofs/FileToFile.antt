@@ -10,7 +10,8 @@ use Rattle.prefilter.specs.Volume.{count_of}
 use Rattle.request.specs.declared.Request.{Request}
 use Rattle.request.specs.Sizes.{needed, zoom_dims}
 use Rattle.request.specs.Conditions.{bad_length, bad_lengths, zooms_slices, bad_outputs, too_large, wild_fill, some_wild}
-use Rattle.lists.proofs.Somes.{some_none, or_false}
+use Rattle.lists.proofs.Somes.{some_none}
+use Rattle.std.proofs.lemmas.Bool.{or_parts}
 use Rattle.request.proofs.Requests.{good_lengths, good_outputs}
 use Rattle.npy.specs.File.{is_npy, dims_of, voxels_of, written}
 use Rattle.npy.specs.Call.{NpyCall, npy_call_of, size_of, write_call}
@@ -38,12 +39,12 @@ module _ (r : Request) (input output : List Float) (coverage : List ℕ) (work :
   admitted shifting q =
       let h = (success_exactly shifting r input output coverage work).0 q in
       let n = count_of r.dims in
-      (h 3, (or_false (too_large n) (too_large n) (or_false (too_large n || too_large n) (too_large (needed r)) (h 6)).0).1, (or_false (wild_fill r.mode) (some_wild input) (h 8)).1)
+      (h 3, (or_parts (too_large n) (too_large n) (or_parts (too_large n || too_large n) (too_large (needed r)) (h 6)).0).1, (or_parts (wild_fill r.mode) (some_wild input) (h 8)).1)
   admitted zooming q =
       let h = (success_exactly zooming r input output coverage work).0 q in
       let n = count_of r.dims in
       let m = count_of (zoom_dims r) in
-      (zoomed (h 12) (h 5), (or_false (too_large n) (too_large m) (or_false (too_large n || too_large m) (too_large (needed r)) (h 6)).0).1, (or_false (wild_fill r.mode) (some_wild input) (h 8)).1)
+      (zoomed (h 12) (h 5), (or_parts (too_large n) (too_large m) (or_parts (too_large n || too_large m) (too_large (needed r)) (h 6)).0).1, (or_parts (wild_fill r.mode) (some_wild input) (h 8)).1)
 
 module _ {e : Entry} {r : Request} {from : List ℕ} {lent : Lent} {out : List ℕ} (s : Resamples e r from lent out) where
   resampled_is : resampled e r from lent ≡ call_on e r (voxels_of from) lent

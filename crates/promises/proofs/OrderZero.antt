@@ -8,7 +8,8 @@ use mathlib.Core.List.{List}
 use lib.Ieee.{Float}
 use borrow.Author.Tests.{eq-eqb}
 use Rattle.exact.specs.Rounded.{num}
-use Rattle.lists.proofs.Somes.{none-at, or_false}
+use Rattle.lists.proofs.Somes.{none-at}
+use Rattle.std.proofs.lemmas.Bool.{or_parts}
 use Rattle.axis.specs.declared.coordinate.Axis.{Axis}
 use Rattle.axis.specs.Coordinate.{pad_of}
 use Rattle.axis.specs.Weights.{order_on}
@@ -54,8 +55,8 @@ module _ (r : Request) (input output : List Float) (coverage : List ℕ) (work :
         let m = r.mode in
         let b = admits e r p.lengths in
         let none : (some_beside m a.x || some_beside m a.y || some_beside m a.z) ≡ false = ap (λ (t : Bool). t && (some_beside m a.x || some_beside m a.y || some_beside m a.z)) (sym (eq-eqb r.order 0 zero)) ∙ clear e done in
-        let xy = or_false (some_beside m a.x || some_beside m a.y) (some_beside m a.z) none in
-        let x = or_false (some_beside m a.x) (some_beside m a.y) xy.0 in
+        let xy = or_parts (some_beside m a.x || some_beside m a.y) (some_beside m a.z) none in
+        let x = or_parts (some_beside m a.x) (some_beside m a.y) xy.0 in
         let q = (three_exactly m (kept_at m a.x i) (kept_at m a.y j) (kept_at m a.z k) (folded_at r.order m a.x i) (folded_at r.order m a.y j) (folded_at r.order m a.z k)).0 (sym (code_is e r input output coverage work s i j k h) ∙ c) in
         ⊎_elim (axis_never b.x p.x x.0 i h.x q.0.0)
         (⊎_elim (axis_never b.y p.y x.1 j h.y q.0.1) (axis_never b.z p.z xy.1 k h.z q.0.2))

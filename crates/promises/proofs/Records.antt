@@ -8,7 +8,8 @@ use lib.Dec.{eqb}
 use lib.ListN.{length, get_or}
 use lib.Ieee.{Float, nan}
 use borrow.Author.Tests.{eq-eqb}
-use Rattle.lists.proofs.Somes.{none-at, or_false}
+use Rattle.lists.proofs.Somes.{none-at}
+use Rattle.std.proofs.lemmas.Bool.{or_parts}
 use Rattle.axis.specs.Point.{some_beside}
 use Rattle.request.specs.declared.Request.{Request}
 use Rattle.request.specs.Sizes.{zoom_dims}
@@ -29,8 +30,8 @@ buffers p q s = simp (eq-eqb _ _ p, eq-eqb _ _ q, eq-eqb _ _ s)
 -- ---- refusal 9 on no axis is refusal 9 on none of them
 of_three : (zeroth x y z : Bool) → (zeroth && (x || y || z)) ≡ false → ((zeroth && x) ≡ false) × (((zeroth && y) ≡ false) × ((zeroth && z) ≡ false))
 of_three true x y z h =
-    let u = or_false (x || y) z h in
-    let v = or_false x y u.0 in
+    let u = or_parts (x || y) z h in
+    let v = or_parts x y u.0 in
     (v.0, (v.1, u.1))
 of_three false x y z h = (refl, (refl, refl))
 

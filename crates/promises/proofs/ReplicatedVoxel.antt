@@ -13,7 +13,7 @@ use lib.Ieee.{Float, nan}
 use Rattle.exact.specs.Whole.{Is}
 use Rattle.exact.specs.Same.{Same}
 use Rattle.exact.proofs.Withins.{within_is}
-use Rattle.lists.proofs.Somes.{or_false}
+use Rattle.std.proofs.lemmas.Bool.{or_parts}
 use Rattle.border.specs.declared.BorderMode.{BorderMode}
 use Rattle.border.specs.declared.BorderMode.TheVariants.{Replicate}
 use Rattle.border.specs.Manual.{Stands}
@@ -68,7 +68,7 @@ module _ (e : Entry) (r : Request) (input output : List Float) (coverage : List 
   dim c = get_or r.dims c 0
 
   tame : Finite input
-  tame = not-wild input (or_false (wild_fill r.mode) (some_wild input) (eighth e done)).1
+  tame = not-wild input (or_parts (wild_fill r.mode) (some_wild input) (eighth e done)).1
     where
       eighth : (e : Entry) → number_in (call e r input output coverage work).answer ≡ 0 → (wild_fill r.mode || some_wild input) ≡ false
       eighth shifting d = (success_exactly shifting r input output coverage work).0 d 8

@@ -9,7 +9,8 @@ use lib.IntN.{ℤ, pos, neg_ℤ, ◌+ℤ◌, ◌-ℤ◌, neg_ℤ-neg_ℤ, +ℤ-n
 use lib.Dec.{T}
 use lib.ListN.{length, get_or}
 use lib.Ieee.{Float, nan, binary64, fits}
-use Rattle.lists.proofs.Somes.{some_none, none-at, or_false}
+use Rattle.lists.proofs.Somes.{some_none, none-at}
+use Rattle.std.proofs.lemmas.Bool.{or_parts}
 use Rattle.border.specs.declared.BorderMode.TheVariants.{Constant}
 use Rattle.prefilter.specs.Volume.{count_of}
 use Rattle.request.specs.declared.Request.{Request}
@@ -55,7 +56,7 @@ module _ {r : Request} {input output : List Float} {coverage : List ℕ} {work :
 
   -- ---- the first output is again an input that refusal 8 lets pass
   values : (wild_fill r.mode ≡ false) × (some_wild input ≡ false)
-  values = or_false (wild_fill r.mode) (some_wild input) (a.clear 8 (λ e. omega (arith, e)))
+  values = or_parts (wild_fill r.mode) (some_wild input) (a.clear 8 (λ e. omega (arith, e)))
 
   again_f64 : F64s there.output
   again_f64 = each a (λ v. T (fits binary64 v)) fill64 (λ m v l h. h.is64)
@@ -78,7 +79,7 @@ module _ {r : Request} {input output : List Float} {coverage : List ℕ} {work :
         record {
           lengths = ap bad_lengths dims ∙ a.clear 3 (λ e. omega (arith, e));
           still = λ i l one. ap neg_ℤ (slice_still r (a.clear 12 (λ e. omega (arith, e))) i l (a.whole i l).0 (ap (λ (d : List ℕ). get_or d i 0) (sym dims) ∙ one));
-          count = ap (λ (d : List ℕ). too_large (count_of d)) dims ∙ (or_false (too_large n) (too_large n) (or_false (too_large n || too_large n) (too_large (needed r)) (a.clear 6 (λ e. omega (arith, e)))).0).0;
+          count = ap (λ (d : List ℕ). too_large (count_of d)) dims ∙ (or_parts (too_large n) (too_large n) (or_parts (too_large n || too_large n) (too_large (needed r)) (a.clear 6 (λ e. omega (arith, e)))).0).0;
           all = result_length a ∙ count;
           values = values' ∙ p.values ∙ count;
           codes = codes' ∙ p.codes ∙ count;

@@ -11,7 +11,8 @@ use lib.Ieee.{Float, nan, neg, of_int, le}
 use borrow.Author.Tests.{le-ltb}
 use Rattle.exact.specs.Rounded.{num}
 use Rattle.exact.proofs.Withins.{within_of_tests, within_finite}
-use Rattle.lists.proofs.Somes.{some_none, none-at, or_false}
+use Rattle.lists.proofs.Somes.{some_none, none-at}
+use Rattle.std.proofs.lemmas.Bool.{or_parts}
 use Rattle.border.specs.declared.BorderMode.{BorderMode}
 use Rattle.border.specs.declared.BorderMode.TheVariants.{Constant}
 use Rattle.axis.specs.declared.coordinate.Axis.{Axis}
@@ -94,7 +95,7 @@ module _ {r : Request} {input output : List Float} {coverage : List ℕ} {work :
   lengths = good_lengths r.dims (a.clear 3 (λ e. omega (arith, e)))
 
   pub tame : Finite input
-  tame = not-wild input (or_false (wild_fill r.mode) (some_wild input) (a.clear 8 (λ e. omega (arith, e)))).1
+  tame = not-wild input (or_parts (wild_fill r.mode) (some_wild input) (a.clear 8 (λ e. omega (arith, e)))).1
 
   -- ---- one axis
   -- what holds in Constant without a pad

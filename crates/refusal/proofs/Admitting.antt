@@ -23,7 +23,8 @@ use Rattle.request.specs.Conditions.{wrong, bad_shift, bad_factors, bad_index, b
 use Rattle.refusal.specs.Refusals.{first, places_of, shift_checks, zoom_checks, index_checks}
 use Rattle.refusal.specs.Bookkeeping.{Passes}
 use Rattle.refusal.proofs.Firsts.{all_clear}
-use Rattle.lists.proofs.Somes.{none-at, or_false}
+use Rattle.lists.proofs.Somes.{none-at}
+use Rattle.std.proofs.lemmas.Bool.{or_parts}
 use Rattle.request.proofs.Requests.{not_both, padding_most, good_lengths, good_outputs, good_zooms}
 use Rattle.std.specs.Prelude.{Ok}
 
@@ -73,9 +74,9 @@ record Lent (r : Request) (places input output coverage work : ℕ) : Type 0 whe
 module _ (asked : Asked) (r : Request) (input : List Float) (output coverage work : ℕ) where
   lent : (places : ℕ) → (wrong (length input) (count_of r.dims) || wrong output places || wrong coverage places || ltb work (needed r)) ≡ false → Lent r places (length input) output coverage work
   lent places e =
-      let w = or_false (wrong (length input) (count_of r.dims) || wrong output places || wrong coverage places) (ltb work (needed r)) e in
-      let c = or_false (wrong (length input) (count_of r.dims) || wrong output places) (wrong coverage places) w.0 in
-      let o = or_false (wrong (length input) (count_of r.dims)) (wrong output places) c.0 in
+      let w = or_parts (wrong (length input) (count_of r.dims) || wrong output places || wrong coverage places) (ltb work (needed r)) e in
+      let c = or_parts (wrong (length input) (count_of r.dims) || wrong output places) (wrong coverage places) w.0 in
+      let o = or_parts (wrong (length input) (count_of r.dims)) (wrong output places) c.0 in
       record { all = right _ _ o.0; values = right _ _ o.1; codes = right _ _ c.1; room = ltb-false work (needed r) w.1 }
 
   pub shift_passes : first (shift_checks asked r input output coverage work) ≡ Ok tt → Passes r (shift_axes r) (places_of asked (count_of r.dims)) (length input) output coverage work

@@ -11,7 +11,7 @@ use Rattle.axis.specs.Coordinate.{pad_of, shift_axis, zoom_axis}
 use Rattle.axis.specs.Length.{output_length}
 use Rattle.axis.specs.Bookkeeping.{Zooms, Reached, Reaches}
 use Rattle.axis.proofs.Coordinates.{pad_most}
-use Rattle.lists.proofs.Somes.{or_false}
+use Rattle.std.proofs.lemmas.Bool.{or_parts}
 use Rattle.request.specs.Conditions.{wrong}
 use Rattle.request.proofs.Requests.{good_length, good_output, good_zoom}
 use Rattle.refusal.specs.Refusals.{first, point_checks, shift_point_checks, zoom_point_checks}
@@ -31,8 +31,8 @@ pub record Noted (n order : ℕ) (a : Axis) (i coordinate at weight : ℕ) : Typ
 module _ (n : ℕ) (factor : Float) (order : ℕ) (prefilter : Bool) (mode : BorderMode) (i coordinate at weight : ℕ) where
   noted : (a : Axis) → (1 ≤ n) × (n ≤ longest) → Reaches order a → Clear (point_checks order mode a i coordinate at weight) → Noted n order a i coordinate at weight
   noted a l r h =
-      let w = or_false (wrong coordinate 1 || wrong at 6) (wrong weight 6) h.0 in
-      let v = or_false (wrong coordinate 1) (wrong at 6) w.0 in
+      let w = or_parts (wrong coordinate 1 || wrong at 6) (wrong weight 6) h.0 in
+      let v = or_parts (wrong coordinate 1) (wrong at 6) w.0 in
       record { least = l.0; most = l.1; reached = r.each i (leb-false a.out i h.1.1.0); one = right _ _ v.0; neighbours = right _ _ v.1; weights = right _ _ w.1 }
 
   abbrev pad : ℕ

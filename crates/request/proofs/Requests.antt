@@ -10,7 +10,8 @@ use lib.ListN.{get_or}
 use lib.Ieee.{Float, nan, lt, le, eq}
 use borrow.Author.Tests.{ltb-false, eqb-true, not-false}
 use Rattle.exact.specs.Rounded.{num}
-use Rattle.lists.proofs.Somes.{none-at, or_false}
+use Rattle.lists.proofs.Somes.{none-at}
+use Rattle.std.proofs.lemmas.Bool.{or_parts}
 use Rattle.limits.specs.Limits.{longest, longest_padded, single}
 use Rattle.axis.specs.Coordinate.{pads}
 use Rattle.axis.specs.Bookkeeping.{Zooms}
@@ -47,7 +48,7 @@ not_both true false e = absurd (true≢false e)
 not_both false b e = absurd (true≢false e)
 
 pub good_length : (n : ℕ) → bad_length n ≡ false → (1 ≤ n) × (n ≤ longest)
-good_length n e = let h = or_false (ltb n 1) (ltb longest n) e in (ltb-false n 1 h.0, ltb-false longest n h.1)
+good_length n e = let h = or_parts (ltb n 1) (ltb longest n) e in (ltb-false n 1 h.0, ltb-false longest n h.1)
 
 pub good_lengths : (d : List ℕ) → bad_lengths d ≡ false → Lengths d
 unfolding bad_lengths
@@ -63,7 +64,7 @@ module _ (n out : ℕ) (slice : zooms_slice n out ≡ false) where
 
   module _ (good : bad_output n out ≡ false) where
     more : single n ≡ false → (2 ≤ out) × (out ≤ longest)
-    more s = let h = or_false (ltb out 2) (ltb longest out) (ap (λ (b : Bool). not b && (ltb out 2 || ltb longest out)) (sym s) ∙ good) in (ltb-false out 2 h.0, ltb-false longest out h.1)
+    more s = let h = or_parts (ltb out 2) (ltb longest out) (ap (λ (b : Bool). not b && (ltb out 2 || ltb longest out)) (sym s) ∙ good) in (ltb-false out 2 h.0, ltb-false longest out h.1)
 
     pub good_output : ((1 ≤ out) × (out ≤ longest)) × (single n ≡ false → 2 ≤ out)
     good_output = (go (single n) refl, λ s. (more s).0)

@@ -15,7 +15,7 @@ use Rattle.request.specs.Bookkeeping.{Lengths}
 use Rattle.refusal.specs.Refusals.{first, filter_checks, spline_filter_checks, spline_filter1d_checks}
 use Rattle.resample.specs.Call.{filter_call_of, filter_call_by}
 use Rattle.refusal.proofs.Firsts.{Clear, all_clear}
-use Rattle.lists.proofs.Somes.{or_false}
+use Rattle.std.proofs.lemmas.Bool.{or_parts}
 use Rattle.request.proofs.Requests.{good_lengths}
 use Rattle.std.specs.Prelude.{Result, Ok, Err, ⊤}
 
@@ -29,13 +29,13 @@ pub record Filters (r : Request) (input output : ℕ) : Type 0 where
 module _ (r : Request) (input : List Float) (output : ℕ) where
   admitted : r.order ≤ 5 → Clear (filter_checks r input output) → Filters r (length input) output
   admitted order h =
-      let wrongs = or_false _ _ h.1.1.0 in
+      let wrongs = or_parts _ _ h.1.1.0 in
       record { order = order; lengths = good_lengths r.dims h.0; read = eqb-true _ _ (not-false _ wrongs.0); written = eqb-true _ _ (not-false _ wrongs.1) }
 
   pub volume_admitted : first (spline_filter_checks r input output) ≡ Ok tt → (2 ≤ r.order) × Filters r (length input) output
   volume_admitted e =
       let h = all_clear (spline_filter_checks r input output) e in
-      let bounds = or_false _ _ h.0 in
+      let bounds = or_parts _ _ h.0 in
       (ltb-false _ _ bounds.0, admitted (ltb-false _ _ bounds.1) h.1)
 
   pub axis_admitted : (axis : ℕ) → first (spline_filter1d_checks r axis input output) ≡ Ok tt → (axis ≤ 2) × Filters r (length input) output
