@@ -1,9 +1,9 @@
 -- The pad, stretch by stretch: padded stretch j of W places copies stretch `clamped n j`, of w places, in the way `inner`. A plane is so made of rows, and a volume of planes.
 use Prim.Native.Nat.{ℕ, ◌+◌, ◌*◌, ◌-◌, ◌/◌, ◌%◌, ◌≤◌, ◌<◌}
-use mathlib.Core.Path.{◌≡◌, refl, ap, ◌∙◌, subst}
+use mathlib.Core.Path.{◌≡◌, ap, ◌∙◌, subst}
 use mathlib.Core.List.{List, ◌++◌}
 use native.Mathlib.Omega.{arith}
-use native.Mathlib.Nat.{add-mul, mul_assoc, min-le_right, zero-mul, not-suc-le-zero}
+use native.Mathlib.Nat.{add-mul, mul_assoc, min-le_right}
 use borrow.Rule.Slice.PartMut.{same_len_mid}
 use lib.Arith.{digits_lt, digits_div, digits_mod}
 use lib.ListN.{length, get_or, take, drop}
@@ -31,9 +31,6 @@ pub record Copied (n w W : ℕ) (inner : ℕ → ℕ) (xs : List Float) (long j 
   pub filled : Filled (copies n w W inner xs) nan to (j * W)
 
 module _ (n w W : ℕ) (inner : ℕ → ℕ) (xs : List Float) where
-  pub none_copied : (to : List Float) → Copied n w W inner xs (length to) 0 to
-  none_copied to = record { same = refl; filled = λ m h. absurd (not-suc-le-zero (rw zero-mul at h)) }
-
   module _ (bound : (m : ℕ) → m < W → inner m < w) where
     -- the stretch that was lent is as the whole says
     copied : (ys : List Float) (j s : ℕ) → s ≡ clamped n j → Filled (λ (m : ℕ). at (take (s * w + w - s * w) (drop (s * w) xs)) (inner m)) nan ys W → Filled (λ (m : ℕ). copies n w W inner xs (j * W + m)) nan ys W

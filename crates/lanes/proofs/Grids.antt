@@ -3,7 +3,7 @@ use Prim.Native.Nat.{ℕ, ◌+◌, ◌*◌, ◌-◌, ◌/◌, ◌%◌, ◌≤◌
 use mathlib.Core.Path.{◌≡◌, sym, ap, ◌∙◌}
 use mathlib.Core.Logic.{inl, inr}
 use native.Mathlib.Omega.{arith}
-use native.Mathlib.Nat.{mul_comm, mul_assoc, add-mul, mod-lt, mod-eq_of_lt, div-one, div-add-mod', div-lt_iff_lt-mul, mul-add-div_right, mul-add-mod_self_right, mul-le-mul_right, le-mul_of_pos_right, le_antisymm, le_of_mul-le-mul_right}
+use native.Mathlib.Nat.{mul_comm, mul_assoc, add-mul, mod-lt, mod-eq_of_lt, div-one, div-add-mod', div-lt_iff_lt-mul, mul-add-div_right, mul-add-mod_self_right, mul-le-mul_right, le_antisymm, le_of_mul-le-mul_right}
 use lib.Arith.{digits_lt, digits_div, digits_mod}
 use Rattle.lanes.specs.Along.{along}
 use Rattle.lanes.specs.declared.Grid.{Grid}
@@ -71,11 +71,6 @@ module _ {grid : Grid} {count : ℕ} (g : Fills grid count) where
 
   pub stride_some : 1 ≤ grid.stride
   stride_some = elim g.lie [ inl e ↦ omega (arith, g.some) | inr e ↦ omega arith ]
-
-  pub lanes_few : grid.lanes ≤ count
-  lanes_few =
-      let long : grid.lanes ≤ grid.lanes * grid.size = le-mul_of_pos_right grid.lanes (omega (arith, g.least)) in
-      omega (arith, g.all)
 
   pub of_length : {length : ℕ} → length ≡ count → Fills grid length
   of_length e = rw e g

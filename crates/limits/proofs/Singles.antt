@@ -1,11 +1,11 @@
 -- Which axis is a single slice, and how many edge copies an axis has.
-use Prim.Native.Nat.{ℕ, ◌+◌, ◌≤◌}
+use Prim.Native.Nat.{ℕ, ◌≤◌}
 use native.Mathlib.Omega.{arith}
 use mathlib.Core.Path.{◌≡◌}
 use mathlib.Core.Bool.{Bool, true, false, cond}
 use lib.Dec.{lit≤}
 use borrow.Author.Tests.{eq-eqb, ne_eqb, eqb-true, eqb-false}
-use Rattle.limits.specs.Limits.{longest_padded, single, edge_of, wide_of}
+use Rattle.limits.specs.Limits.{single, edge_of}
 
 pub one_single : (n : ℕ) → n ≡ 1 → single n ≡ true
 one_single n e = eq-eqb n 1 e
@@ -34,6 +34,3 @@ edge_most n = go (single n)
     go : (b : Bool) → cond b 0 12 ≤ 12
     go true = lit≤ tt
     go false = lit≤ tt
-
-pub wide_most : {n : ℕ} → n ≤ longest_padded → wide_of n ≤ longest_padded + 24
-wide_most {n} l = omega (arith, edge_most n)

@@ -5,7 +5,7 @@ use mathlib.Core.Logic.{dite, ⊎_elim}
 use native.Mathlib.Decide.{dec_lt}
 use mathlib.Core.List.{List, [], ◌∷◌, ◌++◌}
 use native.Mathlib.Omega.{arith}
-use native.Mathlib.Nat.{add-mul, eq-or-lt_of_le, not-suc-le-zero, zero-lt-suc, zero-mul, mul-zero, mul-le-mul_right}
+use native.Mathlib.Nat.{add-mul, eq-or-lt_of_le, zero-lt-suc, mul-zero, mul-le-mul_right}
 use borrow.Rule.Slice.PartMut.{same_len_mid, post_of}
 use lib.ListN.{length, get_or, take, drop, set, length-take, length-drop, get_or-append}
 use Rattle.lists.specs.Tabulate.{tabulate}
@@ -68,9 +68,6 @@ part_length xs a k h = simp (length-take, length-drop) (omega arith)
 pub record Written {A : Type 0} (f : ℕ → A) (d : A) (w long : ℕ) (l : List A) (j : ℕ) : Type 0 where
   pub same : length l ≡ long
   pub filled : Filled f d l (j * w)
-
-pub none_written : {A : Type 0} (f : ℕ → A) (d : A) (w : ℕ) (l : List A) → Written f d w (length l) l 0
-none_written f d w l = record { same = refl; filled = λ m h. absurd (not-suc-le-zero (rw zero-mul at h)) }
 
 -- stretch j of n lies within the buffer
 pub stretch_within : (j n w long : ℕ) → j < n → long ≡ n * w → (j * w ≤ (j + 1) * w) × ((j + 1) * w ≤ long)

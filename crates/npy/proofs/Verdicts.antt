@@ -19,9 +19,6 @@ use Rattle.npy.specs.File.{is_npy, dims_of}
 use Rattle.npy.specs.Call.{npy_call_of, npy_call_by, length_checks, read_checks, write_checks, size_of}
 use Rattle.std.specs.Prelude.{Result, Ok, Err, ⊤}
 
-buffer_wrong : {t : Bool} → t ≡ true → first (when Buffer t ∷ []) ≡ Err Buffer
-buffer_wrong e = ap (λ (t : Bool). cond t (Err Buffer) (Ok tt)) e
-
 buffer_right : {t : Bool} → t ≡ false → first (when Buffer t ∷ []) ≡ Ok tt
 buffer_right e = ap (λ (t : Bool). cond t (Err Buffer) (Ok tt)) e
 

@@ -2,7 +2,7 @@
 // a NaN has bits too. No caller has checked anything.
 #![tactic(auto)]
 
-ghost use Rattle.std.specs.Prelude.{◌≡◌, length};
+ghost use Rattle.std.specs.Prelude.{◌≡◌};
 ghost use Rattle.refusal.specs.Refusals.{first};
 ghost use Rattle.npy.specs.Call.{npy_call_of, length_checks, read_checks, write_checks, dims_call, read_call, size_call, write_call};
 

@@ -5,7 +5,7 @@ use mathlib.Core.Logic.{inl, inr}
 use mathlib.Core.Bool.{Bool, true, false}
 use mathlib.Core.List.{List}
 use native.Mathlib.Numerals.{add-one}
-use native.Mathlib.Nat.{mul-pos, mul-le-mul}
+use native.Mathlib.Nat.{mul-pos}
 use lib.Dec.{lit≤}
 use lib.Ieee.{Float}
 use Rattle.limits.specs.Limits.{single}
@@ -14,7 +14,7 @@ use Rattle.poles.specs.declared.Pole.{Pole}
 use Rattle.poles.specs.Poles.{poles_of, gain_of}
 use Rattle.lane.specs.Lane.{reflects, filter_lane}
 use Rattle.lanes.specs.Along.{filter_along}
-use Rattle.prefilter.specs.Volume.{filter_axis, filter_volume, length_of, stride_of, count_of}
+use Rattle.prefilter.specs.Volume.{filter_axis, filter_volume, length_of, stride_of}
 use Rattle.prefilter.specs.Bookkeeping.{Sized}
 use Rattle.lanes.specs.Bookkeeping.{Fills}
 
@@ -28,9 +28,6 @@ module _ {d : List ℕ} {count : ℕ} (z : Sized d count) where
   pub some : (axis : ℕ) → axis < 3 → 1 ≤ length_of axis d
   some = z.least
 
-  pub plane_small : length_of 1 d * length_of 2 d ≤ 4120 * 4120
-  plane_small = mul-le-mul (z.most 1 (lit≤ tt)) (z.most 2 (lit≤ tt))
-
   -- ---- a volume is one block of the lanes of axis 0, and each plane is a block of the lanes of axis 1 and of those of axis 2
   pub across : 2 ≤ length_of 0 d → Fills (record { lanes = stride_of 0 d; size = length_of 0 d; step = 1; stride = stride_of 0 d }) (stride_of 0 d * length_of 0 d)
   across two = side_by_side _ _ (mul-pos (some 1 (lit≤ tt)) (some 2 (lit≤ tt))) two (z.most 0 (lit≤ tt))
@@ -43,9 +40,6 @@ module _ {d : List ℕ} {count : ℕ} (z : Sized d count) where
 
   pub of_length : {length : ℕ} → length ≡ count → Sized d length
   of_length e = rw e z
-
-  pub as_sized : Sized d (count_of d)
-  as_sized = rw z.all at z
 
 pub along-axis :
     (mode : BorderMode) (order : ℕ) (d : List ℕ) (axis : ℕ) (xs : List Float) {reflect : Bool} {ps : List Pole} {gain : Float} {size stride : ℕ} {ys : List Float} →

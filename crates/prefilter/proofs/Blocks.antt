@@ -4,7 +4,7 @@ use mathlib.Core.Path.{◌≡◌, refl, sym, ap, ◌∙◌}
 use mathlib.Core.Logic.{inl, inr}
 use mathlib.Core.List.{List, ◌++◌, append_assoc, append-nil}
 use native.Mathlib.Omega.{arith}
-use native.Mathlib.Nat.{mul_comm, mul-one, mul-le-mul_right, zero-mul}
+use native.Mathlib.Nat.{mul_comm, mul-one, mul-le-mul_right}
 use lib.ListN.{length, take, drop, drop_of_length-le}
 use lib.Seq.{length-take-le, take_all, take_at, drop_at, take-add, drop-drop}
 use lib.Ieee.{Float}
@@ -28,9 +28,6 @@ lent xs a w h = part_length xs a (a + w - a) (omega arith) ∙ omega arith
 -- `new` up to place a, and `old` from there on
 abbrev pub up_to : ℕ → List Float → List Float → List Float
 up_to a new old = take a new ++ drop a old
-
-pub up_to-none : (w : ℕ) (new old : List Float) → old ≡ up_to (0 * w) new old
-up_to-none w new old = rw zero-mul
 
 pub up_to_all : (a : ℕ) (new old : List Float) → length new ≡ length old → length old ≤ a → up_to a new old ≡ new
 up_to_all a new old e h =

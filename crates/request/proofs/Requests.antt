@@ -38,9 +38,6 @@ source_small r h =
 pub area_most : (d : List ℕ) → Small d → get_or d 1 0 * get_or d 2 0 ≤ 16974400
 area_most d h = mul-le-mul h.1.0 h.1.1
 
-pub count_most : (d : List ℕ) → Small d → get_or d 0 0 * (get_or d 1 0 * get_or d 2 0) ≤ 69934528000
-count_most d h = mul-le-mul h.0 (area_most d h)
-
 -- ---- what a test that does not apply says
 pub not_both : (a b : Bool) → not (a && b) ≡ false → T a × T b
 not_both true true e = (tt, tt)

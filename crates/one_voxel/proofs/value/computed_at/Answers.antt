@@ -2,7 +2,6 @@
 use mathlib.Core.Path.{refl, ◌∙◌}
 use Rattle.voxels.specs.Voxel.{tap_of}
 use Rattle.voxels.proofs.Sweeping.{computed_copy, computed-sum}
-use Rattle.one_voxel.proofs.value.computed_at.Goals.{Start}
 use Rattle.one_voxel.proofs.value.computed_at.Goals as goal
 
 pub returns-then-source-eq0 : goal.returns-then-source-eq0
