@@ -1,15 +1,20 @@
 -- What the tests of a file come to, one after the other.
-use Prim.Native.Nat.{ℕ, zero, suc, ◌+◌, ◌-◌, ◌*◌, ◌≤◌, ◌<◌}
+use Prim.Native.Nat.{ℕ, zero, suc, ◌+◌, ◌*◌, ◌≤◌, ◌<◌}
 use native.Mathlib.Nat.{zero-add, suc-add}
 use mathlib.Core.Path.{◌≡◌, refl, sym, ap, ◌∙◌}
-use mathlib.Core.Bool.{Bool, true, false, ◌&&◌}
+use mathlib.Core.Logic.{dite}
+use native.Mathlib.Decide.{dec_lt}
+use native.Mathlib.Omega.{arith}
+use mathlib.Core.Bool.{Bool, true, false, not, ◌&&◌, cond}
+use Rattle.std.specs.Prelude.{Some, None}
 use mathlib.Core.List.{List, [], ◌∷◌}
 use lib.Dec.{eqb, ltb, leb}
-use lib.ListN.{length, take, drop, length-drop}
+use lib.ListN.{length, take, drop}
 use lib.Seq.{take-nil}
 use borrow.Author.Tests.{le-leb, lt-leb, leb-true}
 use Rattle.prefilter.specs.Volume.{count_of}
 use Rattle.text.specs.Text.{literal, found}
+use Rattle.text.proofs.Texts.{some_left, none_left}
 use Rattle.npy.specs.Header.{is_header}
 use Rattle.npy.specs.File.{magic, text_start, text_length, text_of, data_of, dims_of, longest_text, largest_span, span_of, has_header, has_data, is_npy}
 use Rattle.npy.specs.Bookkeeping.{Headed}
@@ -21,12 +26,35 @@ from_prefix zero n l = ap (λ (k : ℕ). take k l) (zero-add n)
 from_prefix (suc a) n [] = ap (λ (l : List ℕ). drop (suc a) l) (take-nil (suc a + n)) ∙ sym (take-nil n)
 from_prefix (suc a) n (x ∷ l) = ap (λ (k : ℕ). drop (suc a) (take k (x ∷ l))) (suc-add a n) ∙ from_prefix a n l
 
+-- a place is at the end where nothing is left
+pub at_end : (t : List ℕ) (at : ℕ) → leb (length t) at ≡ not (found (drop at t))
+at_end t at =
+    dite
+    (dec_lt at (length t))
+    (λ h. simp (lt-leb (length t) at h, some_left t at h))
+    (λ h. let k : length t ≤ at = omega arith in simp (le-leb (length t) at k, none_left t at k))
+
 and_none : (t : Bool) {u : Bool} → u ≡ false → (t && u) ≡ false
 and_none true e = e
 and_none false e = refl
 
 and_first : {t : Bool} (u : Bool) → t ≡ false → (t && u) ≡ false
 and_first u e = ap (λ (t : Bool). t && u) e
+
+-- ---- lengths that are given where a test holds
+pub given : (t : Bool) {x y : List ℕ} → cond t (Some x) None ≡ Some y → (t ≡ true) × (x ≡ y)
+given true e = (refl, cc)
+given false e = cc
+
+pub not_given : (t : Bool) (x : List ℕ) → cond t (Some x) None ≡ None → t ≡ false
+not_given true x e = cc
+not_given false x e = refl
+
+pub give : {t : Bool} {x y : List ℕ} → t ≡ true → x ≡ y → Some y ≡ cond t (Some x) None
+give {x = x} e f = ap Some (sym f) ∙ sym (ap (λ (t : Bool). cond t (Some x) None) e)
+
+pub give_none : {t : Bool} (x : List ℕ) → t ≡ false → None ≡ cond t (Some x) None
+give_none x e = sym (ap (λ (t : Bool). cond t (Some x) None) e)
 
 module _ (file : List ℕ) where
   abbrev has_magic : Bool
@@ -72,9 +100,9 @@ module _ (file : List ℕ) where
   unfolding has_data
   large_span e = sym (and_first (eqb (length (data_of file)) (count_of (dims_of file) * 8)) e)
 
-  pub data_there : small_span ≡ true → eqb (length file - (text_start + text_length file)) (count_of (dims_of file) * 8) ≡ has_data file
+  pub data_there : small_span ≡ true → eqb (length (data_of file)) (count_of (dims_of file) * 8) ≡ has_data file
   unfolding has_data
-  data_there e = λ i. sym e i && eqb (sym (length-drop (text_start + text_length file) file) i) (count_of (dims_of file) * 8)
+  data_there e = λ i. sym e i && eqb (length (data_of file)) (count_of (dims_of file) * 8)
 
   -- ---- both
   pub no_header : has_header file ≡ false → false ≡ is_npy file

@@ -1,7 +1,6 @@
 -- The laws of files: for the functions of this crate,
 pub mod ShapeEntry
 pub mod Puts
-pub mod Spans
 pub mod Deciding
 pub mod Verdicts
 -- and the way there and back.

@@ -4,7 +4,7 @@ use mathlib.Core.Path.{◌≡◌, sym, ap, ◌∙◌}
 use mathlib.Core.Bool.{Bool, true, false, not, ◌||◌, cond}
 use mathlib.Core.List.{List, [], ◌∷◌, ◌++◌}
 use lib.Dec.{eqb}
-use borrow.Author.Tests.{ltb-false, eqb-true, eq-eqb, ne_eqb, not-false}
+use borrow.Author.Tests.{ltb-false, eqb-true, eq-eqb, not-false}
 use Rattle.limits.specs.Limits.{most_places}
 use Rattle.prefilter.specs.Volume.{count_of}
 use Rattle.request.specs.Conditions.{wrong}
@@ -14,9 +14,9 @@ use Rattle.request.proofs.Requests.{small, good_lengths}
 use Rattle.refusal.specs.declared.Refusal.{Refusal}
 use Rattle.refusal.specs.declared.Refusal.TheVariants.{NotNpy, Buffer}
 use Rattle.refusal.specs.Refusals.{Check, when, first}
-use Rattle.refusal.proofs.Firsts.{all_clear, passed_on, refused_before}
+use Rattle.refusal.proofs.Firsts.{all_clear, passed_on}
 use Rattle.npy.specs.File.{is_npy, dims_of}
-use Rattle.npy.specs.Call.{npy_call_of, npy_call_by, dims_checks, length_checks, read_checks, write_checks, size_of}
+use Rattle.npy.specs.Call.{npy_call_of, npy_call_by, length_checks, read_checks, write_checks, size_of}
 use Rattle.std.specs.Prelude.{Result, Ok, Err, ⊤}
 
 buffer_wrong : {t : Bool} → t ≡ true → first (when Buffer t ∷ []) ≡ Err Buffer
@@ -51,17 +51,8 @@ module _ (d : List ℕ) (v : first (length_checks d) ≡ Ok tt) where
     abbrev last : List Check
     last = when Buffer (wrong volume (count_of d) || wrong bytes (size_of d)) ∷ []
 
-    pub write_volume : (volume ≡ count_of d → ⊥) → first (write_checks d volume bytes) ≡ Err Buffer
-    write_volume n = passed_on (length_checks d) last v ∙ buffer_wrong (ap (λ (t : Bool). not t || wrong bytes (size_of d)) (ne_eqb volume (count_of d) n))
-
-    pub write_bytes : volume ≡ count_of d → (bytes ≡ size_of d → ⊥) → first (write_checks d volume bytes) ≡ Err Buffer
-    write_bytes e n = passed_on (length_checks d) last v ∙ buffer_wrong (ap (λ (t : Bool). not t || wrong bytes (size_of d)) (eq-eqb volume (count_of d) e) ∙ ap not (ne_eqb bytes (size_of d) n))
-
     pub write_passed : volume ≡ count_of d → bytes ≡ size_of d → first (write_checks d volume bytes) ≡ Ok tt
     write_passed e f = passed_on (length_checks d) last v ∙ buffer_right (ap (λ (t : Bool). not t || wrong bytes (size_of d)) (eq-eqb volume (count_of d) e) ∙ ap not (eq-eqb bytes (size_of d) f))
-
-pub write_lengths : (d : List ℕ) (volume bytes : ℕ) (why : Refusal) → first (length_checks d) ≡ Err why → first (write_checks d volume bytes) ≡ Err why
-write_lengths d volume bytes why r = refused_before (length_checks d) (when Buffer (wrong volume (count_of d) || wrong bytes (size_of d)) ∷ []) why r
 
 -- ---- the reader's
 module _ (file : List ℕ) (volume : ℕ) where
@@ -71,34 +62,14 @@ module _ (file : List ℕ) (volume : ℕ) where
   abbrev behind : List Check
   behind = length_checks (dims_of file) ++ length-right
 
-  pub read_other : is_npy file ≡ false → first (read_checks file volume) ≡ Err NotNpy
-  read_other e = ap (λ (t : Bool). cond (not t) (Err NotNpy) (first behind)) e
-
   is_file : is_npy file ≡ true → first (read_checks file volume) ≡ first behind
   is_file e = ap (λ (t : Bool). cond (not t) (Err NotNpy) (first behind)) e
-
-  pub read_lengths : is_npy file ≡ true → (why : Refusal) → first (length_checks (dims_of file)) ≡ Err why → first (read_checks file volume) ≡ Err why
-  read_lengths e why r = is_file e ∙ refused_before (length_checks (dims_of file)) length-right why r
-
-  pub read_volume : is_npy file ≡ true → first (length_checks (dims_of file)) ≡ Ok tt → (volume ≡ count_of (dims_of file) → ⊥) → first (read_checks file volume) ≡ Err Buffer
-  read_volume e v n = is_file e ∙ passed_on (length_checks (dims_of file)) length-right v ∙ buffer_wrong (ap not (ne_eqb volume (count_of (dims_of file)) n))
 
   pub read_passed : is_npy file ≡ true → first (length_checks (dims_of file)) ≡ Ok tt → volume ≡ count_of (dims_of file) → first (read_checks file volume) ≡ Ok tt
   read_passed e v f = is_file e ∙ passed_on (length_checks (dims_of file)) length-right v ∙ buffer_right (ap not (eq-eqb volume (count_of (dims_of file)) f))
 
   pub read_clear : first (read_checks file volume) ≡ Ok tt → (is_npy file ≡ true) × (volume ≡ count_of (dims_of file))
   read_clear v = let h = all_clear (read_checks file volume) v in (not-false (is_npy file) h.0, same_count volume (count_of (dims_of file)) h.1.1.1.0)
-
--- ---- the lengths' alone
-module _ (file : List ℕ) (dims : ℕ) where
-  pub dims_other : is_npy file ≡ false → first (dims_checks file dims) ≡ Err NotNpy
-  dims_other e = ap (λ (t : Bool). cond (not t) (Err NotNpy) (first (when Buffer (wrong dims 3) ∷ []))) e
-
-  pub dims_wrong : is_npy file ≡ true → (dims ≡ 3 → ⊥) → first (dims_checks file dims) ≡ Err Buffer
-  dims_wrong e n = ap (λ (t : Bool). cond (not t) (Err NotNpy) (first (when Buffer (wrong dims 3) ∷ []))) e ∙ buffer_wrong (ap not (ne_eqb dims 3 n))
-
-  pub dims_passed : is_npy file ≡ true → dims ≡ 3 → first (dims_checks file dims) ≡ Ok tt
-  dims_passed e f = ap (λ (t : Bool). cond (not t) (Err NotNpy) (first (when Buffer (wrong dims 3) ∷ []))) e ∙ buffer_right (ap not (eq-eqb dims 3 f))
 
 -- what the writer's checks let pass
 pub record Writes (d : List ℕ) (volume bytes : ℕ) : Type 0 where

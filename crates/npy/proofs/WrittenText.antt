@@ -1,6 +1,5 @@
 -- The text that the writer makes is a header, and its lengths are those that were written.
 use Prim.Native.Nat.{ℕ, zero, suc, ◌≤◌, ◌<◌}
-use native.Mathlib.Omega.{arith}
 use mathlib.Core.Path.{◌≡◌, refl, ap, ◌∙◌}
 use mathlib.Core.Bool.{Bool, true, not, ◌&&◌}
 use mathlib.Core.List.{List, [], ◌∷◌, ◌++◌, append_assoc}
@@ -9,7 +8,9 @@ use lib.ListN.{get_or}
 use Rattle.text.specs.declared.Kind.TheVariants.{Spacing}
 use Rattle.text.specs.Text.{bytes, past, expect, found}
 use Rattle.text.specs.Numeral.{numeral, after_numeral}
-use Rattle.npy.specs.Header.{first_length, next_length, after_shape, lengths_in, key_at, value_at, after_entry, first_entry, next_entry, after_comma, closes, each_once, is_header, shape_entry, lengths_of}
+use Rattle.npy.specs.declared.header.Key.{Key}
+use Rattle.npy.specs.declared.header.Key.TheVariants.{Descr, FortranOrder, Shape}
+use Rattle.npy.specs.Header.{first_length, next_length, after_shape, lengths_in, key_at, value_at, after_entry, first_entry, next_entry, after_comma, closes, is_same, each_once, is_header, shape_entry, lengths_of}
 use Rattle.npy.specs.File.{decimal, entries, written_text, spaces, spaces_after, padded}
 use Rattle.npy.proofs.ShapeEntry.{shape_third}
 use Rattle.npy.proofs.Numerals.{Leads, leads_stays, decimal_leads, numeral_back, numeral_behind}
@@ -29,7 +30,7 @@ module _ (rest : List ℕ) where
   unfolding first_entry
   at_first = refl
 
-  key_first : key_at (first rest) ≡ 0
+  key_first : key_at (first rest) ≡ Descr
   unfolding key_at
   key_first = refl
 
@@ -37,7 +38,7 @@ module _ (rest : List ℕ) where
   unfolding next_entry
   at_second = refl
 
-  key_second : key_at (second rest) ≡ 1
+  key_second : key_at (second rest) ≡ FortranOrder
   unfolding key_at
   key_second = refl
 
@@ -45,7 +46,7 @@ module _ (rest : List ℕ) where
   unfolding next_entry
   at-third = refl
 
-  key_third : key_at (third rest) ≡ 2
+  key_third : key_at (third rest) ≡ Shape
   unfolding key_at
   key_third = refl
 
@@ -151,9 +152,9 @@ module _ (a b c : ℕ) (rest : List ℕ) (pa : Plain a) (pb : Plain b) (pc : Pla
 
   whole_lengths : lengths_of whole ≡ a ∷ b ∷ c ∷ []
   whole_lengths =
-      let none : key_at (first_entry whole) ≡ 0 = ap key_at (at_first shape) ∙ key_first shape in
-      let one : key_at (next_entry (first_entry whole)) ≡ 1 = ap key_at whole-second ∙ key_second shape in
-      let entry : shape_entry whole ≡ third shape = shape_third whole (λ e. omega arith) (λ e. omega arith) ∙ whole-third in
+      let none : key_at (first_entry whole) ≡ Descr = ap key_at (at_first shape) ∙ key_first shape in
+      let one : key_at (next_entry (first_entry whole)) ≡ FortranOrder = ap key_at whole-second ∙ key_second shape in
+      let entry : shape_entry whole ≡ third shape = shape_third whole (ap (λ (k : Key). is_same k Shape) none) (ap (λ (k : Key). is_same k Shape) one) ∙ whole-third in
       lengths_at whole ∙ ap lengths_in (ap value_at entry ∙ value_third shape) ∙ shape_lengths
 
   whole_header : past Spacing rest ≡ [] → is_header whole ≡ true

@@ -1,21 +1,23 @@
--- What the reader has found behind the header, and what the writer's functions have put.
-use Rattle.std.specs.Prelude.{ℕ, ◌+◌, ◌≤◌, ◌≡◌, List, ◌++◌, length, get_or, take}
+-- What the reader has found behind the header, and what the writer puts.
+use Rattle.std.specs.Prelude.{ℕ, ◌+◌, ◌≤◌, Option, Some, None, cond, List, ◌++◌, length, get_or}
 use Rattle.text.specs.Text.{bytes}
-use Rattle.npy.specs.declared.header.Header.{Header}
 use Rattle.npy.specs.Header.{is_header, lengths_of}
-use Rattle.npy.specs.File.{text_start, text_length, decimal}
+use Rattle.npy.specs.File.{text_start, text_length, dims_of, has_header, is_npy, decimal}
 
-abbrev pub header_in : List ℕ → Header
-header_in text = record { good = is_header text; dims = lengths_of text }
+-- the lengths of a header
+abbrev pub header_in : List ℕ → Option (List ℕ)
+header_in text = cond (is_header text) (Some (lengths_of text)) None
+
+-- those of a file whose header is whole, and of a file of the kind
+abbrev pub dims_in_header : List ℕ → Option (List ℕ)
+dims_in_header file = cond (has_header file) (Some (dims_of file)) None
+
+abbrev pub dims_in_file : List ℕ → Option (List ℕ)
+dims_in_file file = cond (is_npy file) (Some (dims_of file)) None
 
 -- the file goes on at least to the end of its header
 abbrev pub Headed : List ℕ → Type 0
 Headed file = text_start + text_length file ≤ length file
-
--- a text was put at a place; r is the place behind it
-pub record Put (text : List ℕ) (at : ℕ) (before after : List ℕ) (r : ℕ) : Type 0 where
-  pub place : r ≡ at + length text
-  pub front : take r after ≡ take at before ++ text
 
 -- the lengths as the writer puts them, a comma and a space between
 abbrev pub written_lengths : List ℕ → List ℕ

@@ -7,12 +7,14 @@ use text::numeral::{after_numeral, numeral};
 use text::{Kind, expect, is_at, literal, past, quoted};
 
 // ---- shape = "(" s num s "," s num s "," s num s ")"
+#[tactic(auto, unfolding(crate::specs::Header::first_length))]
 fn first_length(text: &[u8], at: usize) -> usize
     ensures { drop result text.now ≡ first_length (drop at text.now) }
 {
     past(text, expect(text, at, b'('), Kind::Spacing)
 }
 
+#[tactic(auto, unfolding(crate::specs::Header::next_length))]
 fn next_length(text: &[u8], at: usize) -> usize
     ensures { drop result text.now ≡ next_length (drop at text.now) }
 {
@@ -20,6 +22,7 @@ fn next_length(text: &[u8], at: usize) -> usize
     past(text, expect(text, behind, b','), Kind::Spacing)
 }
 
+#[tactic(auto, unfolding(crate::specs::Header::after_shape))]
 fn after_shape(text: &[u8], at: usize) -> usize
     ensures { drop result text.now ≡ after_shape (drop at text.now) }
 {
@@ -31,6 +34,7 @@ fn after_shape(text: &[u8], at: usize) -> usize
     )
 }
 
+#[tactic(auto, unfolding(crate::specs::Header::lengths_in))]
 fn lengths_in(text: &[u8], at: usize) -> [usize; 3]
     ensures { result ≡ lengths_in (drop at text.now) }
 {
@@ -40,34 +44,43 @@ fn lengths_in(text: &[u8], at: usize) -> [usize; 3]
     [numeral(text, a), numeral(text, b), numeral(text, c)]
 }
 
-// ---- entries: key s ":" s value, with the keys 0 descr, 1 fortran_order, 2 shape, 3 any other
-fn after_key(text: &[u8], at: usize, key: u8) -> usize
+// ---- entries: key s ":" s value
+#[derive(Clone, Copy, PartialEq, Eq)]
+enum Key {
+    Descr,
+    FortranOrder,
+    Shape,
+    Other,
+}
+
+#[tactic(auto, unfolding(crate::specs::Header::after_key))]
+fn after_key(text: &[u8], at: usize, key: Key) -> usize
     ensures { drop result text.now ≡ after_key key (drop at text.now) }
 {
-    if key == 0 {
-        return quoted(text, at, b"descr");
+    match key {
+        Key::Descr => quoted(text, at, b"descr"),
+        Key::FortranOrder => quoted(text, at, b"fortran_order"),
+        Key::Shape => quoted(text, at, b"shape"),
+        Key::Other => text.len(),
     }
-    if key == 1 {
-        return quoted(text, at, b"fortran_order");
-    }
-    quoted(text, at, b"shape")
 }
 
-fn key_at(text: &[u8], at: usize) -> u8
+#[tactic(auto, using(text::proofs::Texts::some_left, text::proofs::Texts::none_left), unfolding(crate::specs::Header::key_at))]
+fn key_at(text: &[u8], at: usize) -> Key
     ensures { result ≡ key_at (drop at text.now) }
 {
-    if after_key(text, at, 0) < text.len() {
-        return 0;
+    if after_key(text, at, Key::Descr) < text.len() {
+        Key::Descr
+    } else if after_key(text, at, Key::FortranOrder) < text.len() {
+        Key::FortranOrder
+    } else if after_key(text, at, Key::Shape) < text.len() {
+        Key::Shape
+    } else {
+        Key::Other
     }
-    if after_key(text, at, 1) < text.len() {
-        return 1;
-    }
-    if after_key(text, at, 2) < text.len() {
-        return 2;
-    }
-    3
 }
 
+#[tactic(auto, unfolding(crate::specs::Header::value_at))]
 fn value_at(text: &[u8], at: usize) -> usize
     ensures { drop result text.now ≡ value_at (drop at text.now) }
 {
@@ -75,21 +88,19 @@ fn value_at(text: &[u8], at: usize) -> usize
     past(text, expect(text, behind, b':'), Kind::Spacing)
 }
 
-fn after_value(text: &[u8], at: usize, key: u8) -> usize
+#[tactic(auto, unfolding(crate::specs::Header::after_value))]
+fn after_value(text: &[u8], at: usize, key: Key) -> usize
     ensures { drop result text.now ≡ after_value key (drop at text.now) }
 {
-    if key == 0 {
-        return quoted(text, at, b"<f8");
+    match key {
+        Key::Descr => quoted(text, at, b"<f8"),
+        Key::FortranOrder => literal(text, at, b"False"),
+        Key::Shape => after_shape(text, at),
+        Key::Other => text.len(),
     }
-    if key == 1 {
-        return literal(text, at, b"False");
-    }
-    if key == 2 {
-        return after_shape(text, at);
-    }
-    text.len()
 }
 
+#[tactic(auto, unfolding(crate::specs::Header::after_entry))]
 fn after_entry(text: &[u8], at: usize) -> usize
     ensures { drop result text.now ≡ after_entry (drop at text.now) }
 {
@@ -97,6 +108,7 @@ fn after_entry(text: &[u8], at: usize) -> usize
 }
 
 // ---- the whole text
+#[tactic(auto, unfolding(crate::specs::Header::first_entry))]
 fn first_entry(text: &[u8], at: usize) -> usize
     ensures { drop result text.now ≡ first_entry (drop at text.now) }
 {
@@ -107,6 +119,7 @@ fn first_entry(text: &[u8], at: usize) -> usize
     )
 }
 
+#[tactic(auto, unfolding(crate::specs::Header::next_entry))]
 fn next_entry(text: &[u8], at: usize) -> usize
     ensures { drop result text.now ≡ next_entry (drop at text.now) }
 {
@@ -114,82 +127,73 @@ fn next_entry(text: &[u8], at: usize) -> usize
     past(text, expect(text, behind, b','), Kind::Spacing)
 }
 
+#[tactic(auto, unfolding(crate::specs::Header::after_comma))]
 fn after_comma(text: &[u8], at: usize) -> usize
     ensures { drop result text.now ≡ after_comma (drop at text.now) }
 {
     if is_at(text, at, b',') {
-        return past(text, expect(text, at, b','), Kind::Spacing);
+        past(text, expect(text, at, b','), Kind::Spacing)
+    } else {
+        at
     }
-    at
 }
 
+#[tactic(auto, using(crate::proofs::Deciding::at_end), unfolding(crate::specs::Header::closes))]
 fn closes(text: &[u8], at: usize) -> bool
     ensures { result ≡ closes (drop at text.now) }
 {
-    if is_at(text, at, b'}') {
-        return past(text, expect(text, at, b'}'), Kind::Spacing) >= text.len();
-    }
-    false
+    is_at(text, at, b'}') && past(text, expect(text, at, b'}'), Kind::Spacing) >= text.len()
 }
 
-fn each_once(j: u8, k: u8, l: u8) -> bool
+fn each_once(j: Key, k: Key, l: Key) -> bool
     ensures { result ≡ each_once j k l }
 {
-    if j == k {
-        return false;
-    }
-    if j == l {
-        return false;
-    }
-    k != l
+    j != k && j != l && k != l
 }
 
+#[tactic(auto, unfolding(crate::specs::Header::is_header))]
 fn is_header(text: &[u8], at: usize) -> bool
     ensures { result ≡ is_header (drop at text.now) }
 {
     let a = first_entry(text, at);
     let b = next_entry(text, a);
     let c = next_entry(text, b);
-    if each_once(key_at(text, a), key_at(text, b), key_at(text, c)) {
-        let behind = past(text, after_entry(text, c), Kind::Spacing);
-        return closes(text, after_comma(text, behind));
-    }
-    false
+    let behind = past(text, after_entry(text, c), Kind::Spacing);
+    each_once(key_at(text, a), key_at(text, b), key_at(text, c))
+        && closes(text, after_comma(text, behind))
 }
 
 // The entry that has the key "shape".
+#[tactic(auto, using(crate::proofs::ShapeEntry::is_shape), unfolding(crate::specs::Header::shape_entry))]
 fn shape_entry(text: &[u8], at: usize) -> usize
     ensures { drop result text.now ≡ shape_entry (drop at text.now) }
 {
     let a = first_entry(text, at);
-    if key_at(text, a) == 2 {
+    if key_at(text, a) == Key::Shape {
         return a;
     }
     let b = next_entry(text, a);
-    if key_at(text, b) == 2 {
+    if key_at(text, b) == Key::Shape {
         return b;
     }
     next_entry(text, b)
 }
 
-fn lengths_of(text: &[u8], at: usize) -> [usize; 3]
+// The lengths of a header, and numbers of a text that is none.
+#[tactic(auto, unfolding(crate::specs::Header::lengths_of))]
+pub fn lengths_of(text: &[u8], at: usize) -> [usize; 3]
     ensures { result ≡ lengths_of (drop at text.now) }
 {
     lengths_in(text, value_at(text, shape_entry(text, at)))
 }
 
-// What a text says: whether it is a header's, and its lengths.
-#[derive(Clone, Copy)]
-pub struct Header {
-    pub good: bool,
-    pub dims: [usize; 3],
-}
-
-// The header's text from a place on, to the end.
-pub(crate) fn header_at(text: &[u8], at: usize) -> Header
+// The lengths of the header that the text is from a place on, to the end, if it is one.
+pub(crate) fn header_at(text: &[u8], at: usize) -> Option<[usize; 3]>
     ensures { result ≡ header_in (drop at text.now) }
 {
-    let good = is_header(text, at);
-    let dims = lengths_of(text, at);
-    Header { good, dims }
+    if is_header(text, at) {
+        Some(lengths_of(text, at))
+    } else {
+        None
+    }
 }

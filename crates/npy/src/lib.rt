@@ -2,11 +2,11 @@
 // a NaN has bits too. No caller has checked anything.
 #![tactic(auto)]
 
-ghost use Rattle.std.specs.Prelude.{◌≡◌, [], ◌∷◌, length, get_or};
+ghost use Rattle.std.specs.Prelude.{◌≡◌, length};
 ghost use Rattle.refusal.specs.Refusals.{first};
 ghost use Rattle.npy.specs.Call.{npy_call_of, length_checks, read_checks, write_checks, dims_call, read_call, size_call, write_call};
 
-use crate::file::{data_of, dims_of, is_npy};
+use crate::file::{data_of, dims_in_file};
 use crate::writer::{HEADER, put_header};
 use limits::MOST_PLACES;
 use refusal::Refusal;
@@ -35,10 +35,7 @@ fn length_verdict(d: [usize; 3]) -> Result<(), Refusal>
 fn read_verdict(file: &[u8], volume: usize) -> Result<(), Refusal>
     ensures { result ≡ first (read_checks file.now volume) }
 {
-    if !is_npy(file) {
-        return Err(Refusal::NotNpy);
-    }
-    let d = dims_of(file);
+    let d = dims_in_file(file).ok_or(Refusal::NotNpy)?;
     length_verdict(d)?;
     if volume != count_of(d) {
         return Err(Refusal::Buffer);
@@ -60,26 +57,16 @@ fn write_verdict(d: [usize; 3], volume: usize, bytes: usize) -> Result<(), Refus
     Ok(())
 }
 
-fn put_dims(dims: &mut [usize], d: [usize; 3])
-    requires { length dims.old ≡ 3 }
-    ensures { dims.new ≡ get_or d 0 0 ∷ get_or d 1 0 ∷ get_or d 2 0 ∷ [] }
-{
-    dims[0] = d[0];
-    dims[1] = d[1];
-    dims[2] = d[2];
-}
-
 // The lengths of any file of the kind, whether or not it can be read.
+#[tactic(auto, unfolding(crate::specs::Call::dims_call))]
 pub fn dims(file: &[u8], dims: &mut [usize]) -> Result<(), Refusal>
     ensures { npy_call_of result dims.new ≡ dims_call file.now dims.old }
 {
-    if !is_npy(file) {
-        return Err(Refusal::NotNpy);
-    }
+    let d = dims_in_file(file).ok_or(Refusal::NotNpy)?;
     if dims.len() != 3 {
         return Err(Refusal::Buffer);
     }
-    put_dims(dims, dims_of(file));
+    dims.copy_from_slice(&d);
     Ok(())
 }
 

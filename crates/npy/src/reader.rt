@@ -2,7 +2,7 @@
 ghost use Rattle.std.specs.Prelude.{◌≡◌, drop};
 ghost use Rattle.npy.specs.Bookkeeping.{header_in};
 
-use crate::header::{Header, header_at};
+use crate::header::header_at;
 
 #[derive(Clone, Copy)]
 pub struct Reader<'a> {
@@ -10,22 +10,24 @@ pub struct Reader<'a> {
     pub at: usize,
 }
 
-pub fn new<'a>(bytes: &'a [u8], at: usize) -> Reader<'a>
-    ensures { (result.bytes ≡ bytes.entry) × (result.at ≡ at) }
-{
-    Reader { bytes, at }
-}
+impl<'a> Reader<'a> {
+    pub fn new(bytes: &'a [u8], at: usize) -> Reader<'a>
+        ensures { (result.bytes ≡ bytes.entry) × (result.at ≡ at) }
+    {
+        Reader { bytes, at }
+    }
 
-// What the text says from the place reached on.
-pub fn header<'a>(r: Reader<'a>) -> Header
-    ensures { result ≡ header_in (drop r.entry.at r.entry.bytes.now) }
-{
-    header_at(r.bytes, r.at)
+    // The lengths of the header that stands from the place reached on, if one does.
+    pub fn header(self) -> Option<[usize; 3]>
+        ensures { result ≡ header_in (drop self.entry.at self.entry.bytes.now) }
+    {
+        header_at(self.bytes, self.at)
+    }
 }
 
 // The same for whoever has a slice and a place.
-pub fn header_of(bytes: &[u8], at: usize) -> Header
+pub fn header_of(bytes: &[u8], at: usize) -> Option<[usize; 3]>
     ensures { result ≡ header_in (drop at bytes.now) }
 {
-    header(new(bytes, at))
+    Reader::new(bytes, at).header()
 }

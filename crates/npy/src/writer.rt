@@ -1,30 +1,28 @@
-// The writer's header, put from left to right: each function answers the place behind what it put.
-ghost use Rattle.std.specs.Prelude.{◌≡◌, [], ◌∷◌, ◌+◌, ◌-◌, ◌≤◌, ◌<◌, length, take};
+// The writer's header, put from left to right.
+ghost use Rattle.std.specs.Prelude.{◌≡◌, [], ◌++◌, ◌+◌, ◌-◌, ◌≤◌, length, take};
 ghost use Rattle.npy.specs.File.{digit, place_of, decimal, spaces, written_header};
-ghost use Rattle.npy.specs.Bookkeeping.{Put, written_lengths};
+ghost use Rattle.npy.specs.Bookkeeping.{written_lengths};
+
+use std::marker::Model;
 
 // The bytes of a header of ours.
 pub const HEADER: usize = 128;
 
-fn put_byte(bytes: &mut [u8], at: usize, byte: u8) -> usize
-    requires { at < length bytes.old }
-    ensures { Put (byte ∷ []) at bytes.old bytes.new result }
-{
-    bytes[at] = byte;
-    at + 1
+// A header, as far as it is put; it stands on the stack, since a library crate here allocates nothing.
+#[derive(Drop)]
+struct Draft {
+    bytes: [u8; HEADER],
+    end: usize,
 }
 
-fn put(bytes: &mut [u8], at: usize, text: &[u8]) -> usize
-    requires { at + length text.now ≤ length bytes.old }
-    ensures { Put text.now at bytes.old bytes.new result }
-{
-    let mut to = at;
-    let mut i = 0;
-    while i < text.len() {
-        to = put_byte(bytes, to, text[i]);
-        i += 1;
-    }
-    to
+impl Model for Draft {
+    ghost use Rattle.std.specs.Prelude.{List, ℕ, ◌≤◌, take};
+
+    ghost Value = { List ℕ };
+
+    ghost view = { λ h. take h.end h.bytes };
+
+    ghost invariant = { λ h. h.end ≤ 128 };
 }
 
 fn digit_of(n: usize) -> u8
@@ -33,48 +31,73 @@ fn digit_of(n: usize) -> u8
     b'0' + (n % 10) as u8
 }
 
-// The digit of n at the place of p, unless it and those before it are zeros.
-fn put_place(bytes: &mut [u8], at: usize, n: usize, p: usize) -> usize
-    requires { (1 ≤ p) × (at < length bytes.old) }
-    ensures { Put (place_of n p) at bytes.old bytes.new result }
-{
-    if n >= p {
-        return put_byte(bytes, at, digit_of(n / p));
+impl Draft {
+    fn new() -> Draft
+        ensures { result ≡ [] }
+    {
+        Draft {
+            bytes: [0; HEADER],
+            end: 0,
+        }
     }
-    at
-}
 
-fn put_decimal(bytes: &mut [u8], at: usize, n: usize) -> usize
-    requires { at + 4 ≤ length bytes.old }
-    ensures { Put (decimal n) at bytes.old bytes.new result }
-{
-    let a = put_place(bytes, at, n, 1000);
-    let b = put_place(bytes, a, n, 100);
-    let c = put_place(bytes, b, n, 10);
-    put_byte(bytes, c, digit_of(n))
-}
-
-fn put_spaces(bytes: &mut [u8], at: usize, to: usize) -> usize
-    requires { (at ≤ to) × (to ≤ length bytes.old) }
-    ensures { Put (spaces (to - at)) at bytes.old bytes.new result }
-{
-    let mut i = at;
-    while i < to {
-        i = put_byte(bytes, i, b' ');
+    fn as_slice(&self) -> &[u8]
+        ensures { result.now ≡ self.now }
+    {
+        &self.bytes[..self.end]
     }
-    i
-}
 
-// The three lengths, with a comma and a space between them.
-fn put_lengths(bytes: &mut [u8], at: usize, d: [usize; 3]) -> usize
-    requires { at + 16 ≤ length bytes.old }
-    ensures { Put (written_lengths d) at bytes.old bytes.new result }
-{
-    let a = put_decimal(bytes, at, d[0]);
-    let b = put(bytes, a, b", ");
-    let c = put_decimal(bytes, b, d[1]);
-    let e = put(bytes, c, b", ");
-    put_decimal(bytes, e, d[2])
+    fn put(&mut self, text: &[u8])
+        requires { length self.old + length text.now ≤ 128 }
+        ensures { self.new ≡ self.old ++ text.now }
+    {
+        let end = self.end + text.len();
+        self.bytes[self.end..end].copy_from_slice(text);
+        self.end = end;
+    }
+
+    // The digit of n at the place of p, unless it and those before it are zeros.
+    fn put_place(&mut self, n: usize, p: usize)
+        requires p_above_0 { 1 ≤ p }
+        requires room { length self.old + 1 ≤ 128 }
+        ensures { self.new ≡ self.old ++ place_of n p }
+    {
+        if n >= p {
+            self.put(&[digit_of(n / p)]);
+        }
+    }
+
+    #[tactic(auto, unfolding(crate::specs::File::decimal))]
+    fn put_decimal(&mut self, n: usize)
+        requires { length self.old + 4 ≤ 128 }
+        ensures { self.new ≡ self.old ++ decimal n }
+    {
+        self.put_place(n, 1000);
+        self.put_place(n, 100);
+        self.put_place(n, 10);
+        self.put(&[digit_of(n)]);
+    }
+
+    // The three lengths, with a comma and a space between them.
+    fn put_lengths(&mut self, d: [usize; 3])
+        requires { length self.old + 16 ≤ 128 }
+        ensures { self.new ≡ self.old ++ written_lengths d }
+    {
+        self.put_decimal(d[0]);
+        self.put(b", ");
+        self.put_decimal(d[1]);
+        self.put(b", ");
+        self.put_decimal(d[2]);
+    }
+
+    fn put_spaces(&mut self, to: usize)
+        requires room { to ≤ 128 }
+        requires ahead { length self.old ≤ to }
+        ensures { self.new ≡ self.old ++ spaces (to - length self.old) }
+    {
+        self.bytes[self.end..to].fill(b' ');
+        self.end = to;
+    }
 }
 
 // The header of a volume of these lengths.
@@ -82,14 +105,12 @@ pub fn put_header(bytes: &mut [u8], d: [usize; 3])
     requires { 128 ≤ length bytes.old }
     ensures { take 128 bytes.new ≡ written_header d }
 {
-    let preamble = put(bytes, 0, b"\x93NUMPY\x01\x00\x76\x00");
-    let entries = put(
-        bytes,
-        preamble,
-        b"{'descr': '<f8', 'fortran_order': False, 'shape': (",
-    );
-    let lengths = put_lengths(bytes, entries, d);
-    let end = put(bytes, lengths, b"), }");
-    let newline = put_spaces(bytes, end, HEADER - 1);
-    put_byte(bytes, newline, b'\n');
+    let mut header = Draft::new();
+    header.put(b"\x93NUMPY\x01\x00\x76\x00");
+    header.put(b"{'descr': '<f8', 'fortran_order': False, 'shape': (");
+    header.put_lengths(d);
+    header.put(b"), }");
+    header.put_spaces(HEADER - 1);
+    header.put(b"\n");
+    bytes[..HEADER].copy_from_slice(header.as_slice());
 }

@@ -4,16 +4,24 @@ use native.Mathlib.Nat.{le_refl, min-eq_left, min-eq_right}
 use native.Mathlib.Numerals.{add-one}
 use native.Mathlib.Omega.{arith}
 use mathlib.Core.Path.{◌≡◌, refl, sym, ap, ◌∙◌, subst}
+use mathlib.Core.Logic.{dite}
+use native.Mathlib.Decide.{dec_lt}
 use mathlib.Core.Bool.{Bool, true, false, not, ◌&&◌, cond, true≢false}
 use mathlib.Core.List.{List, [], ◌∷◌}
 use lib.Dec.{eqb, ltb, leb}
 use borrow.Author.Tests.{eq-eqb, ne_eqb, lt-ltb, le-ltb, ltb-false, leb-true}
 use lib.ListN.{length, get_or, drop, drop_of_length-le}
 use lib.Seq.{drop-cons, drop-length}
+use Rattle.std.specs.Char.{is_ascii_digit}
+use Rattle.std.proofs.lemmas.Bool.Decides.{nat_tests}
 use Rattle.text.specs.declared.Kind.{Kind}
 use Rattle.text.specs.declared.Kind.TheVariants.{Digit}
 use Rattle.text.specs.Text.{is_digit, is_quote, is_of, past, is_at, expect, literal, quoted, found}
 use Rattle.text.specs.Numeral.{limit, value_from, numeral, after_numeral}
+
+-- ---- the library's digits are these
+pub ascii_digit : (x : ℕ) → is_ascii_digit x ≡ is_digit x
+ascii_digit x = grind (arith, nat_tests)
 
 -- ---- a number that is not 0
 abbrev longer : ℕ → List ℕ → List ℕ
@@ -40,6 +48,10 @@ module _ (text : List ℕ) (at : ℕ) where
   pub sign_first : at < length text → drop at text ≡ get_or text at 0 ∷ drop (at + 1) text
   sign_first h = rw (add-one at) (drop-cons text at 0 h)
 
+  -- nothing is left at the end
+  pub lost : drop (length text) text ≡ []
+  lost = drop-length text
+
   pub past_on : (kind : Kind) → at < length text → is_of kind (get_or text at 0) ≡ true → past kind (drop at text) ≡ past kind (drop (at + 1) text)
   unfolding past
   past_on kind h e = rw (sign_first h, e)
@@ -48,9 +60,9 @@ module _ (text : List ℕ) (at : ℕ) where
   unfolding past
   past_stops kind h e = rw (sign_first h, e)
 
-  pub past_end : (kind : Kind) → length text ≤ at → past kind (drop at text) ≡ drop at text
+  pub past_end : (kind : Kind) → length text ≤ at → past kind (drop at text) ≡ drop (length text) text
   unfolding past
-  past_end kind h = rw (drop_of_length-le text {i = at} h)
+  past_end kind h = rw (drop_of_length-le text {i = at} h) (sym lost)
 
   pub is_there : (sign : ℕ) → at < length text → eqb (get_or text at 0) sign ≡ is_at sign (drop at text)
   unfolding is_at
@@ -67,21 +79,28 @@ module _ (text : List ℕ) (at : ℕ) where
   pub none_left : length text ≤ at → found (drop at text) ≡ false
   none_left h = rw (drop_of_length-le text {i = at} h)
 
-  -- nothing is left at the end
-  pub lost : drop (length text) text ≡ []
-  lost = drop-length text
+  -- a sign that stands there is behind no end
+  pub is_within : (sign : ℕ) → is_at sign (drop at text) ≡ true → at < length text
+  is_within sign e =
+      dite
+      (dec_lt at (length text))
+      (λ h. h)
+      (λ h. absurd (true≢false (sym e ∙ sym (none_there sign (omega arith)))))
 
-  pub expect_there : (sign : ℕ) → at < length text → get_or text at 0 ≡ sign → drop (at + 1) text ≡ expect sign (drop at text)
+  pub expect_there : (sign : ℕ) → is_at sign (drop at text) ≡ true → drop (at + 1) text ≡ expect sign (drop at text)
   unfolding expect
-  expect_there sign h e = rw (sign_first h, eq-eqb (get_or text at 0) sign e)
+  expect_there sign e =
+      let h = is_within sign e in
+      let there : eqb (get_or text at 0) sign ≡ true = is_there sign h ∙ e in
+      rw (sign_first h, there)
 
-  pub expect_other : (sign : ℕ) → at < length text → (get_or text at 0 ≡ sign → ⊥) → drop (length text) text ≡ expect sign (drop at text)
+  pub expect_other : (sign : ℕ) → is_at sign (drop at text) ≡ false → drop (length text) text ≡ expect sign (drop at text)
   unfolding expect
-  expect_other sign h e = rw (sign_first h, ne_eqb (get_or text at 0) sign e) lost
-
-  pub expect_end : (sign : ℕ) → length text ≤ at → drop (length text) text ≡ expect sign (drop at text)
-  unfolding expect
-  expect_end sign h = rw (drop_of_length-le text {i = at} h) lost
+  expect_other sign e =
+      dite
+      (dec_lt at (length text))
+      (λ h. let other : eqb (get_or text at 0) sign ≡ false = is_there sign h ∙ e in rw (sign_first h, other) lost)
+      (λ h. let over : length text ≤ at = omega arith in rw (drop_of_length-le text {i = at} over) lost)
 
   -- ---- a word
   pub literal_on : (word : List ℕ) (i : ℕ) → i < length word → literal (drop i word) (drop at text) ≡ literal (drop (i + 1) word) (expect (get_or word i 0) (drop at text))

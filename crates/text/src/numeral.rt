@@ -2,27 +2,25 @@
 ghost use Rattle.std.specs.Prelude.{◌≡◌, drop};
 ghost use Rattle.text.specs.Numeral.{numeral, after_numeral};
 
-use crate::{Kind, is_digit, past};
+use crate::{Kind, past};
 
 // Numbers are read below this, 2^60: such a number and a digit more is still a u64.
-const LIMIT: usize = 1152921504606846976;
+const LIMIT: usize = 1 << 60;
 
-// The number that the digits write, or the limit.
+// The number that the digits write, or the limit: the number of any text, as its definition has it, and no Option.
 pub fn numeral(text: &[u8], at: usize) -> usize
     ensures { result ≡ numeral (drop at text.now) }
 {
     let mut n = 0;
-    let mut i = at;
-    while i < text.len() {
+    for i in at..text.len() {
         let sign = text[i];
-        if !is_digit(sign) {
+        if !sign.is_ascii_digit() {
             return n;
         }
-        n = n * 10 + (sign - b'0') as usize;
+        n = n * 10 + usize::from(sign - b'0');
         if n >= LIMIT {
             return LIMIT;
         }
-        i += 1;
     }
     n
 }
@@ -31,15 +29,13 @@ pub fn numeral(text: &[u8], at: usize) -> usize
 pub fn after_numeral(text: &[u8], at: usize) -> usize
     ensures { drop result text.now ≡ after_numeral (drop at text.now) }
 {
-    if at < text.len() {
-        if text[at] == b'0' {
-            return at + 1;
-        }
-        if is_digit(text[at]) {
-            if numeral(text, at) < LIMIT {
-                return past(text, at, Kind::Digit);
-            }
-        }
+    if at >= text.len() {
+        text.len()
+    } else if text[at] == b'0' {
+        at + 1
+    } else if text[at].is_ascii_digit() && numeral(text, at) < LIMIT {
+        past(text, at, Kind::Digit)
+    } else {
+        text.len()
     }
-    text.len()
 }

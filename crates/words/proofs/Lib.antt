@@ -1,4 +1,4 @@
 -- The laws of words and bytes.
 pub mod Numbers
--- What the code's shifts do. No crate above speaks of it.
-pub mod Shifts
+-- The library's words of eight bytes. No crate above speaks of it.
+pub mod Library
