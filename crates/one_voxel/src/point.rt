@@ -31,6 +31,7 @@ fn put_point(
     weight.copy_from_slice(&p.weight);
 }
 
+// What C hands one by one, and the definitions take so.
 pub fn shift_point(
     length: usize,
     shift: f64,

@@ -42,6 +42,7 @@ fn point_verdict(
     refuse_if(bad_index(a.out, i), Refusal::Index)
 }
 
+// What C hands one by one, and the definitions take so.
 pub fn shift_point_verdict(
     length: usize,
     shift: f64,

@@ -96,6 +96,7 @@ fn resample_verdict(
     refuse_if(beside_any(r, a), Refusal::Beside)
 }
 
+// Not one with zoom_verdict: all but two lines differ, and each would be a closure.
 pub fn shift_verdict(
     asked: Asked,
     r: Request,
