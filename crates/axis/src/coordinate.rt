@@ -51,8 +51,7 @@ pub fn pad_of(mode: BorderMode, prefilter: bool, order: usize, length: usize) ->
     }
 }
 
-// Shift and zoom are two maps, and no one map at two numbers: `shift_axis` and `zoom_axis` have what is left of
-// them, an axis, in common.
+// Not one with zoom_axis: two maps, whose ratio, shift and lengths all differ.
 pub fn shift_axis(length: usize, shift: f64, pad: usize) -> Axis
     requires { (length ≤ longest) × (pad ≤ 12) }
     ensures { result ≡ shift_axis length shift pad }

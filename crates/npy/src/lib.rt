@@ -9,7 +9,7 @@ ghost use Rattle.npy.specs.Call.{npy_call_of, length_checks, read_checks, write_
 use crate::file::{data_of, dims_in_file};
 use crate::writer::{HEADER, put_header};
 use limits::MOST_PLACES;
-use refusal::Refusal;
+use refusal::{Refusal, refuse_if};
 use request::conditions::bad_lengths;
 use request::sizes::count_of;
 use words::{read_words, write_words};
@@ -23,13 +23,8 @@ mod writer;
 fn length_verdict(d: [usize; 3]) -> Result<(), Refusal>
     ensures { result ≡ first (length_checks d) }
 {
-    if bad_lengths(d) {
-        return Err(Refusal::Length);
-    }
-    if count_of(d) > MOST_PLACES {
-        return Err(Refusal::Count);
-    }
-    Ok(())
+    refuse_if(bad_lengths(d), Refusal::Length)?;
+    refuse_if(count_of(d) > MOST_PLACES, Refusal::Count)
 }
 
 fn read_verdict(file: &[u8], volume: usize) -> Result<(), Refusal>
@@ -37,10 +32,7 @@ fn read_verdict(file: &[u8], volume: usize) -> Result<(), Refusal>
 {
     let d = dims_in_file(file).ok_or(Refusal::NotNpy)?;
     length_verdict(d)?;
-    if volume != count_of(d) {
-        return Err(Refusal::Buffer);
-    }
-    Ok(())
+    refuse_if(volume != count_of(d), Refusal::Buffer)
 }
 
 fn write_verdict(d: [usize; 3], volume: usize, bytes: usize) -> Result<(), Refusal>
@@ -48,13 +40,10 @@ fn write_verdict(d: [usize; 3], volume: usize, bytes: usize) -> Result<(), Refus
 {
     length_verdict(d)?;
     let count = count_of(d);
-    if volume != count {
-        return Err(Refusal::Buffer);
-    }
-    if bytes != HEADER + count * 8 {
-        return Err(Refusal::Buffer);
-    }
-    Ok(())
+    refuse_if(
+        volume != count || bytes != HEADER + count * 8,
+        Refusal::Buffer,
+    )
 }
 
 // The lengths of any file of the kind, whether or not it can be read.
@@ -63,9 +52,7 @@ pub fn dims(file: &[u8], dims: &mut [usize]) -> Result<(), Refusal>
     ensures { npy_call_of result dims.new ≡ dims_call file.now dims.old }
 {
     let d = dims_in_file(file).ok_or(Refusal::NotNpy)?;
-    if dims.len() != 3 {
-        return Err(Refusal::Buffer);
-    }
+    refuse_if(dims.len() != 3, Refusal::Buffer)?;
     dims.copy_from_slice(&d);
     Ok(())
 }

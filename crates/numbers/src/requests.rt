@@ -11,6 +11,7 @@ pub fn is_mode(mode: u32) -> bool
     mode < 6
 }
 
+// Of any number, as is `request_of`: recorded calls hold any. Doors ask `mode_in`.
 pub fn mode_of(mode: u32, fill: f64) -> BorderMode
     ensures { result ≡ mode_of mode fill }
 {

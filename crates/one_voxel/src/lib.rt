@@ -47,7 +47,7 @@ fn put(value: &mut [f64], code: &mut [u8], v: Voxel)
     code[0] = v.code;
 }
 
-// Each entry has its checks and its axes; `voxel_of` and `put` are for both.
+// Not one with zoom_voxel: each is its checks and its axes, and what they share is voxel_of and put.
 pub fn shift_voxel(
     r: Request,
     input: &[f64],

@@ -31,7 +31,8 @@ fn put_point(
     weight.copy_from_slice(&p.weight);
 }
 
-// Each entry has its checks and its axis; `put_point` is for both. C hands on the numbers one by one.
+// Not one with zoom_point: what they share is put_point. C hands on the numbers one by one, and the definitions take
+// them so.
 pub fn shift_point(
     length: usize,
     shift: f64,

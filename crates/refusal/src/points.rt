@@ -42,8 +42,8 @@ fn point_verdict(
     refuse_if(bad_index(a.out, i), Refusal::Index)
 }
 
-// Shift and zoom have a list of checks each; what the lists share is `point_verdict`. C hands on the numbers of an
-// axis one by one, and the definitions take them so.
+// Not one with zoom_point_verdict: what the lists share is point_verdict. C hands on the numbers one by one, and the
+// definitions take them so.
 pub fn shift_point_verdict(
     length: usize,
     shift: f64,

@@ -94,7 +94,7 @@ fn resample_verdict(
     refuse_if(beside_any(r, a), Refusal::Beside)
 }
 
-// Shift and zoom have a list of checks each; what the lists share is `resample_verdict`.
+// Not one with zoom_verdict: what the lists share is resample_verdict, and all but two other lines differ.
 pub fn shift_verdict(
     asked: Asked,
     r: Request,
@@ -156,7 +156,7 @@ fn index_verdict(out: [usize; 3], at: [usize; 3]) -> Result<(), Refusal>
     refuse_if(bad_indices(out, at), Refusal::Index)
 }
 
-// Each list again, and one check more; `value` and `code` are lengths.
+// Each list again and one check more; `value` and `code` are lengths.
 pub fn shift_voxel_verdict(
     r: Request,
     input: &[f64],

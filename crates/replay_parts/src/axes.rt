@@ -66,7 +66,7 @@ fn expect_record(r: &mut Replay, t: Point, count: usize)
     }
 }
 
-// A shift within 2^20. A shift and a zoom are asked for in numbers of their own.
+// A shift within 2^20. Not one with zoomed: the numbers that they are asked for in differ.
 fn shifted(length: usize, shift: f64, pad: usize) -> Option<Axis>
     requires { (2 ≤ length) × ((length ≤ longest) × (pad ≤ 12)) }
     ensures { IfSome result (λ a. Reachable a) }

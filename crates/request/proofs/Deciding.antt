@@ -21,7 +21,7 @@ unfolding some_below
 first_or_later test zero = same_or (test 0)
 first_or_later test (suc n) = ap (λ (b : Bool). b || test (suc n)) (first_or_later test n) ∙ or_assoc (test 0) (some_below (λ i. test (suc i)) n) (test (suc n))
 
-pub any_below : (test : Float → Bool) (xs : List Float) → list_any test xs ≡ some_below (λ i. test (get_or xs i nan)) (length xs)
+pub any_of_list : (test : Float → Bool) (xs : List Float) → list_any test xs ≡ some_below (λ i. test (get_or xs i nan)) (length xs)
 unfolding some_below
-any_below test [] = refl
-any_below test (x ∷ xs) = ap (λ (b : Bool). test x || b) (any_below test xs) ∙ sym (first_or_later (λ i. test (get_or (x ∷ xs) i nan)) (length xs))
+any_of_list test [] = refl
+any_of_list test (x ∷ xs) = ap (λ (b : Bool). test x || b) (any_of_list test xs) ∙ sym (first_or_later (λ i. test (get_or (x ∷ xs) i nan)) (length xs))

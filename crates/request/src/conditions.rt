@@ -11,6 +11,7 @@ pub fn bad_length(n: usize) -> bool
     n < 1 || n > LONGEST
 }
 
+// Of three axes, here and below: a helper over a closure would be no shorter where it is called.
 #[tactic(auto, unfolding(crate::specs::Conditions::bad_lengths, lists::specs::Some::some_below))]
 pub fn bad_lengths(d: [usize; 3]) -> bool
     ensures { result ≡ bad_lengths d }

@@ -72,7 +72,7 @@ pub fn zoom_dims(r: Request) -> [usize; 3]
     ]
 }
 
-// Two maps on each axis; what they share is the record that they make.
+// Not one with zoom_axes: a step for each axis would be a closure, and no shorter.
 pub fn shift_axes(r: Request) -> Axes
     requires { Lengths r.dims }
     ensures { result ≡ shift_axes r }

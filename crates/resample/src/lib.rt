@@ -25,7 +25,7 @@ pub fn counts_in(answer: Result<Counts, Refusal>) -> Counts
     answer.unwrap_or(Counts::none())
 }
 
-// `shift` and `zoom` are two entries of document 01: each has its checks and its axes, and `write` is for both.
+// Not one with zoom: each is its checks and its axes, and what they share is write.
 pub fn shift(
     r: Request,
     input: &[f64],

@@ -289,7 +289,7 @@ pub extern "C" fn vurelika_npy_write(
     number_in(npy::write([d0, d1, d2], volume, bytes))
 }
 
-// Zoom's output length; 0 where refusal 3, 4, 12 or 5 would answer.
+// Zoom's output length; 0 where refusal 3, 4, 12 or 5 would answer. A return for each: what it lets pass is asked for below.
 #[unsafe(no_mangle)]
 pub extern "C" fn vurelika_zoom_length(length: usize, factor: f64) -> usize
     ensures { result ≡ zoom_length length factor }
