@@ -99,7 +99,6 @@ module _ (order : ℕ) (mode : BorderMode) (len : ℕ) (to : Float) {first : Flo
 
 -- ---- the order that an axis is read at
 module _ (len order : ℕ) where
-
   pub long_order : 2 ≤ len → order_on len order ≡ order
   long_order l = simp (two_long len l)
 
