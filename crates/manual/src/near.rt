@@ -27,15 +27,14 @@ fn hold_values(r: &mut Replay, values: &[f64], scipy: Words, largest: f64) -> f6
 
 // A refusal counts as a number outside, and so do words that are no call.
 pub fn hold_call(call: Call, r: &mut Replay) -> f64 {
-    let n = call.output_length();
-    match call.make() {
-        Some(made) if made.answer.is_ok() => {
+    if call.is_call() {
+        let made = call.make();
+        if made.answer.is_ok() {
+            let n = call.output_length();
             let most = largest(call.input_words(), call.input_length());
-            hold_values(r, &made.output[..n], call.value_words(), most)
-        }
-        _ => {
-            r.refuse();
-            0.0
+            return hold_values(r, &made.output[..n], call.value_words(), most);
         }
     }
+    r.refuse();
+    0.0
 }

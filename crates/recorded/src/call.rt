@@ -60,13 +60,10 @@ impl<'a> Call<'a> {
         self.words.whole(k).min(255) as u32
     }
 
-    // What the call asks for, if it names a mode.
-    pub fn request(self) -> Option<Request> {
+    // What the call asks for.
+    pub fn request(self) -> Request {
         let words = self.words;
-        if !is_mode(self.small(10)) {
-            return None;
-        }
-        Some(request_of(
+        request_of(
             words.whole(1),
             words.whole(2),
             words.whole(3),
@@ -77,7 +74,7 @@ impl<'a> Call<'a> {
             self.small(9),
             self.small(10),
             words.float(11),
-        ))
+        )
     }
 
     // A number that only shift and zoom use: 0 for a filter.
@@ -208,7 +205,7 @@ impl<'a> Call<'a> {
     {
         self.words.has(CALL)
             && self.words.word(0) < 4
-            && self.request().is_some()
+            && is_mode(self.small(10))
             && self.fits()
             && self.is_pooled()
     }
@@ -231,12 +228,8 @@ impl<'a> Call<'a> {
         }
     }
 
-    // Makes the call with as much of the buffers as it lends. Words that are no call make none.
-    pub fn make(self) -> Option<Made> {
-        if !self.is_call() {
-            return None;
-        }
-        let r = self.request()?;
+    // Makes the call with as much of the buffers as it lends.
+    pub fn make(self) -> Made {
         let n = self.input_length();
         let values = self.output_length();
         let codes = self.coverage_length();
@@ -247,17 +240,17 @@ impl<'a> Call<'a> {
         let mut work = [BLANK; WORK_ROOM];
         self.input_words().put_floats(&mut input[..n]);
         let answer = self.ask(
-            r,
+            self.request(),
             &input[..n],
             &mut output[..values],
             &mut coverage[..codes],
             &mut work[..places],
         );
-        Some(Made {
+        Made {
             answer,
             output,
             coverage,
             work,
-        })
+        }
     }
 }

@@ -140,16 +140,18 @@ impl<'a> Asked<'a> {
 
 // The voxels of a call that succeeds, and how many these are.
 fn ask_call(call: Call, r: &mut Replay) -> Option<usize> {
-    let made = call.make()?;
+    if !call.is_call() {
+        return None;
+    }
+    let made = call.make();
     made.answer.ok()?;
-    let request = call.request()?;
     let n = call.input_length();
     let places = call.work_length();
     let mut input = [0.0; INPUT_ROOM];
     call.input_words().put_floats(&mut input[..n]);
     let asked = Asked {
         call,
-        request,
+        request: call.request(),
         input: &input[..n],
         work: &made.work[..places],
     };
