@@ -26,7 +26,7 @@ impl Mark {
     }
 }
 
-// Weights and neighbours are all 0 where it reads none.
+// Document 01's record: six weights and six neighbours. All are 0 where it reads none.
 #[derive(Clone, Copy)]
 pub struct Point {
     pub mark: Mark,

@@ -38,6 +38,7 @@ pub fn build_splines(to: f64, order: usize) -> [f64; 6]
     }
 }
 
+// A formula for each order, associated as document 01 prints it, and no one formula at five sizes.
 fn linear(x: f64) -> [f64; 6]
     ensures { result ≡ six_floats (completed (leading1 x)) }
 {

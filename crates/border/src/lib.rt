@@ -66,7 +66,7 @@ fn fold_nearest(idx: f64, len: f64) -> f64
     }
 }
 
-// Clamped to the first and the last voxel.
+// Clamped to the first and the last voxel. Not one with fold_nearest, which keeps what lies between len - 1 and len.
 fn fold_replicate(idx: f64, len: f64) -> f64
     ensures { result ≡ fold_replicate idx len }
 {

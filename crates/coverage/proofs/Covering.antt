@@ -5,6 +5,7 @@ use mathlib.Core.Path.{◌≡◌, refl, sym, ap, ◌∙◌}
 use mathlib.Core.Bool.{Bool, true, false, ◌&&◌, ◌||◌}
 use mathlib.Core.List.{List}
 use lib.Arith.{digits_div, digits_mod}
+use lib.Dec.{eqb}
 use lib.ListN.{length, get_or}
 use Rattle.lists.specs.Tabulate.{tabulate}
 use Rattle.lists.specs.Bookkeeping.{Filled}
@@ -16,10 +17,19 @@ use Rattle.axis.specs.declared.coordinate.Axis.{Axis}
 use Rattle.axis.specs.Folded.{folded_at}
 use Rattle.coverage.specs.declared.codes.Code.{Code}
 use Rattle.coverage.specs.declared.codes.Code.TheVariants.{Computed}
-use Rattle.coverage.specs.Coverage.{number_of_code, kept_at, code_by, own_code, own_codes, x_of, y_of, z_of}
+use Rattle.coverage.specs.Coverage.{number_of_code, drop_code, kept_at, code_by, own_code, own_codes, x_of, y_of, z_of}
 use Rattle.coverage.specs.Bookkeeping.{code_of, axis_code, joined, code_in_plane, code_by_axes}
 
 -- ---- what two axes say, joined
+-- the code of a dropped voxel is neither of the others
+pub drop_apart : (mode : BorderMode) → (eqb (drop_code mode) 0 ≡ false) × (eqb (drop_code mode) 3 ≡ false)
+drop_apart (Constant fill) = (refl, refl)
+drop_apart Mirror = (refl, refl)
+drop_apart Nearest = (refl, refl)
+drop_apart Reflect = (refl, refl)
+drop_apart Wrap = (refl, refl)
+drop_apart Replicate = (refl, refl)
+
 joined-codes : (mode : BorderMode) (k l f g : Bool) → joined (code_of mode k f) (code_of mode l g) ≡ code_of mode (k && l) (f || g)
 joined-codes mode true l false g = refl
 joined-codes mode true true true true = refl

@@ -4,21 +4,16 @@ ghost use Rattle.coverage.specs.Coverage.{number_of_code};
 
 #[derive(Clone, Copy)]
 pub enum Code {
-    Computed,
-    Filled,
-    Defaulted,
-    Folded,
+    Computed = 0,
+    Filled = 1,
+    Defaulted = 2,
+    Folded = 3,
 }
 
 impl From<Code> for u8 {
     ghost from_gives = { λ code number. number ≡ number_of_code code };
 
     fn from(code: Code) -> u8 {
-        match code {
-            Code::Computed => 0,
-            Code::Filled => 1,
-            Code::Defaulted => 2,
-            Code::Folded => 3,
-        }
+        code as u8
     }
 }

@@ -74,7 +74,8 @@ fn join(c: Code, d: Code) -> Code
     }
 }
 
-// The code of one voxel, as the byte that its caller is lent; `Axes` is declared above this crate.
+// The code of one voxel, as the byte that its caller is lent. Axes and indices stand one by one, as in the
+// definition own_code.
 pub fn own_code(
     xa: Axis,
     ya: Axis,
@@ -125,7 +126,7 @@ fn cover_planes(coverage: &mut [u8], xs: &[Code], ys: &[Code], zs: &[Code])
     }
 }
 
-// The whole coverage.
+// The whole coverage. The axes stand one by one, as in the definition own_codes.
 pub fn cover(coverage: &mut [u8], xa: Axis, ya: Axis, za: Axis, order: usize, mode: BorderMode)
     requires order_bound { order ≤ 5 }
     requires coverage_len { length coverage.old ≡ xa.out * (ya.out * za.out) }

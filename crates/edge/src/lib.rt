@@ -15,11 +15,7 @@ fn clamp(n: usize, k: usize) -> usize
     requires { 1 ≤ n }
     ensures { result ≡ clamped n k }
 {
-    let edge = edge_of(n);
-    if k < edge {
-        return 0;
-    }
-    if k - edge < n { k - edge } else { n - 1 }
+    k.saturating_sub(edge_of(n)).min(n - 1)
 }
 
 fn pad_row(to: &mut [f64], from: &[f64])

@@ -14,16 +14,16 @@ use poles::{Pole, powi};
 
 // What lanes are filtered by.
 #[derive(Clone, Copy)]
-pub struct Filter {
-    pub poles: &'static [Pole],
+pub struct Filter<'a> {
+    pub poles: &'a [Pole],
     pub gain: f64,
     pub reflect: bool,
 }
 
-// Four lines, whose first places hold a lane each.
+// Four lines, whose first n places hold a lane each. n stands beside them: of a line that a loop over Lines lends, the
+// front cannot be lent on.
 pub type Lines = [[f64; LONGEST_PADDED]; 4];
 
-// n stands beside a line that is written: a loop over lent lines cannot lend their fronts.
 fn scale(line: &mut [f64], n: usize, gain: f64)
     requires { n ≤ length line.old }
     ensures { take n line.new ≡ map (λ x. x ⊗ gain) (take n line.old) }
@@ -226,7 +226,7 @@ fn scales(lines: &mut Lines, n: usize, gain: f64)
 // The whole filter over four lines.
 pub fn filter_lines(lines: &mut Lines, n: usize, filter: Filter)
     requires { (2 ≤ n) × (n ≤ longest_padded) }
-    ensures { lanes_in n lines.new ≡ map (filter_by filter) (lanes_in n lines.old) }
+    ensures { lanes_in n lines.new ≡ map (filter_by filter.entry) (lanes_in n lines.old) }
 {
     scales(lines, n, filter.gain);
     for pole in filter.poles {

@@ -9,7 +9,7 @@ ghost use Rattle.lanes.specs.Bookkeeping.{Written, Fills, Replaced, lanes_by};
 use lane::{Filter, Lines, filter_lines};
 
 // How lanes of `size` numbers lie in a buffer: lane j starts at j * step, and its numbers stand
-// `stride` apart.
+// `stride` apart. The buffer is written, so it stands beside this, and Fills ties the two.
 #[derive(Clone, Copy)]
 pub struct Grid {
     pub lanes: usize,
@@ -18,7 +18,7 @@ pub struct Grid {
     pub stride: usize,
 }
 
-// The lane that starts at `start`, into the line.
+// The lane that starts at `start`, into the line: two buffers at two strides, so an index counts.
 fn take_lane(line: &mut [f64], data: &[f64], start: usize, stride: usize, n: usize)
     requires le_n { (1 ≤ n) × (n ≤ length line.old) }
     requires stride_in_bounds { start + (n - 1) * stride < length «data».now }
@@ -86,7 +86,7 @@ fn put_four(data: &mut [f64], lines: &Lines, grid: Grid, j: usize)
 fn filter_four(data: &mut [f64], lines: &mut Lines, grid: Grid, j: usize, filter: Filter)
     requires fills { Fills grid (length «data».old) }
     requires j_lt_lanes { j < grid.lanes }
-    ensures { Replaced grid j (j + 4) (lanes_by (filter_by filter) grid «data».old) «data».old «data».new }
+    ensures { Replaced grid j (j + 4) (lanes_by (filter_by filter.entry) grid «data».old) «data».old «data».new }
 {
     take_four(lines, data, grid, j);
     filter_lines(lines, grid.size, filter);
@@ -96,7 +96,7 @@ fn filter_four(data: &mut [f64], lines: &mut Lines, grid: Grid, j: usize, filter
 // All lanes of a buffer that they fill. What the lines hold before does not matter.
 pub fn filter_lanes(data: &mut [f64], lines: &mut Lines, grid: Grid, filter: Filter)
     requires { Fills grid (length «data».old) }
-    ensures { «data».new ≡ filter_along (filter_by filter) grid.size grid.stride «data».old }
+    ensures { «data».new ≡ filter_along (filter_by filter.entry) grid.size grid.stride «data».old }
 {
     for j in (0..grid.lanes).step_by(4) {
         filter_four(data, lines, grid, j, filter);

@@ -180,7 +180,7 @@ fn shape_entry(text: &[u8], at: usize) -> usize
     next_entry(text, b)
 }
 
-// The lengths of a header, and numbers of a text that is none.
+// The lengths of a header; of any other text, some numbers.
 #[tactic(auto, unfolding(crate::specs::Header::lengths_of))]
 pub fn lengths_of(text: &[u8], at: usize) -> [usize; 3]
     ensures { result ≡ lengths_of (drop at text.now) }

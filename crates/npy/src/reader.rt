@@ -1,4 +1,5 @@
-// The reader of a file's header. It keeps the file's bytes, to the header's end, beside the place reached in them.
+// The reader of a file's header. It keeps the file's bytes, to the header's end, beside the place reached in them:
+// document 02 asks for this struct.
 ghost use Rattle.std.specs.Prelude.{◌≡◌, drop};
 ghost use Rattle.npy.specs.Bookkeeping.{header_in};
 

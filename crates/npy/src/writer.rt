@@ -68,6 +68,7 @@ impl Draft {
         }
     }
 
+    // By hand: the definition decimal is of four digits, and a Formatter gives a Result.
     #[tactic(auto, unfolding(crate::specs::File::decimal))]
     fn put_decimal(&mut self, n: usize)
         requires { length self.old + 4 ≤ 128 }

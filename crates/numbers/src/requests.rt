@@ -5,13 +5,14 @@ ghost use Rattle.numbers.specs.Numbers.{is_mode, mode_of, request_of, plain_requ
 use border::BorderMode;
 use request::Request;
 
+// Of a number alone; who wants the mode too asks mode_in.
 pub fn is_mode(mode: u32) -> bool
     ensures { result ≡ is_mode mode }
 {
     mode < 6
 }
 
-// Of any number, as is `request_of`: recorded calls hold any. Doors ask `mode_in`.
+// Of any number, as request_of is: a file of recorded calls may hold any. Doors ask mode_in.
 pub fn mode_of(mode: u32, fill: f64) -> BorderMode
     ensures { result ≡ mode_of mode fill }
 {
@@ -32,7 +33,7 @@ pub fn mode_in(mode: u32, fill: f64) -> Option<BorderMode>
     is_mode(mode).then(|| mode_of(mode, fill))
 }
 
-// Of any number, as a file of recorded calls has them.
+// Of any numbers, and so what recorded calls ask for; doors ask request_in.
 pub fn request_of(
     d0: usize,
     d1: usize,

@@ -12,6 +12,7 @@ use border::BorderMode;
 use refusal::Refusal;
 use refusal::points::{shift_point_verdict, zoom_point_verdict};
 
+// The record, into the three buffers that C lends one by one.
 fn put_point(
     order: usize,
     mode: BorderMode,

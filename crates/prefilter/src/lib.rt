@@ -30,7 +30,7 @@ fn reflects(mode: BorderMode) -> bool
 fn filter_blocks(data: &mut [f64], blocks: usize, grid: Grid, filter: Filter)
     requires fills { Fills grid (grid.lanes * grid.size) }
     requires le_blocks { (1 ≤ blocks) × (length «data».old ≡ blocks * (grid.lanes * grid.size)) }
-    ensures { «data».new ≡ filter_along (filter_by filter) grid.size grid.stride «data».old }
+    ensures { «data».new ≡ filter_along (filter_by filter.entry) grid.size grid.stride «data».old }
 {
     let mut lines = [[0.0; LONGEST_PADDED]; 4];
     let block = grid.lanes * grid.size;
@@ -107,10 +107,9 @@ pub fn filter_axis(data: &mut [f64], dims: [usize; 3], axis: usize, order: usize
     requires le_order { (2 ≤ order) × (order ≤ 5) }
     ensures { «data».new ≡ filter_axis mode order dims axis «data».old }
 {
-    if is_single(dims[axis]) {
-        return;
+    if !is_single(dims[axis]) {
+        filter_long(data, dims, axis, order, mode);
     }
-    filter_long(data, dims, axis, order, mode);
 }
 
 pub fn filter_volume(data: &mut [f64], dims: [usize; 3], order: usize, mode: BorderMode)

@@ -32,6 +32,7 @@ pub enum Asked {
     Voxel,
 }
 
+// By this name, since the definitions and the promises have it.
 pub fn number_of(why: Refusal) -> u32
     ensures { result ≡ number_of why }
 {

@@ -25,7 +25,7 @@ fn beside(order: usize, mode: BorderMode, a: Axis) -> bool
     order == 0 && some_beside(a, mode)
 }
 
-// Refusals 7, 9 and 11.
+// Refusals 7, 9 and 11. What they are asked of stands one by one, as in the list of checks.
 fn point_verdict(
     order: usize,
     mode: BorderMode,

@@ -27,7 +27,7 @@ fn some_too_large(input: usize, output: usize, work: usize) -> bool
     too_large(input) || too_large(output) || too_large(work)
 }
 
-// The lengths of the lent buffers against their counts.
+// The lengths of the lent buffers against their counts, one by one, as in the list of checks.
 fn some_wrong(
     input: usize,
     count: usize,
@@ -156,7 +156,7 @@ fn index_verdict(out: [usize; 3], at: [usize; 3]) -> Result<(), Refusal>
     refuse_if(bad_indices(out, at), Refusal::Index)
 }
 
-// Each list again and one check more; `value` and `code` are lengths.
+// Not one with zoom_voxel_verdict: each is its own list and one check more. `value` and `code` are lengths.
 pub fn shift_voxel_verdict(
     r: Request,
     input: &[f64],

@@ -7,7 +7,7 @@ use border::BorderMode;
 pub mod conditions;
 pub mod sizes;
 
-// `factors` are shifts or zoom factors, one for each axis.
+// Document 01's record. An order is a number, since public calls take any; `factors` are shifts or zoom factors, one for each axis.
 #[derive(Clone, Copy)]
 pub struct Request {
     pub dims: [usize; 3],

@@ -63,12 +63,10 @@ pub fn zoom_dims(r: Request) -> [usize; 3]
     requires { Zoomed r }
     ensures { result ≡ zoom_dims r }
 {
-    let d = r.dims;
-    let f = r.factors;
     [
-        output_length(d[0], f[0]),
-        output_length(d[1], f[1]),
-        output_length(d[2], f[2]),
+        output_length(r.dims[0], r.factors[0]),
+        output_length(r.dims[1], r.factors[1]),
+        output_length(r.dims[2], r.factors[2]),
     ]
 }
 
@@ -77,12 +75,10 @@ pub fn shift_axes(r: Request) -> Axes
     requires { Lengths r.dims }
     ensures { result ≡ shift_axes r }
 {
-    let d = r.dims;
-    let f = r.factors;
     Axes {
-        x: shift_axis(d[0], f[0], padding(r, 0)),
-        y: shift_axis(d[1], f[1], padding(r, 1)),
-        z: shift_axis(d[2], f[2], padding(r, 2)),
+        x: shift_axis(r.dims[0], r.factors[0], padding(r, 0)),
+        y: shift_axis(r.dims[1], r.factors[1], padding(r, 1)),
+        z: shift_axis(r.dims[2], r.factors[2], padding(r, 2)),
     }
 }
 
@@ -91,10 +87,9 @@ pub fn zoom_axes(r: Request, out: [usize; 3]) -> Axes
     requires out_value { (out ≡ zoom_dims r) × Lengths out }
     ensures { result ≡ zoom_axes r }
 {
-    let d = r.dims;
     Axes {
-        x: zoom_axis(d[0], out[0], padding(r, 0)),
-        y: zoom_axis(d[1], out[1], padding(r, 1)),
-        z: zoom_axis(d[2], out[2], padding(r, 2)),
+        x: zoom_axis(r.dims[0], out[0], padding(r, 0)),
+        y: zoom_axis(r.dims[1], out[1], padding(r, 1)),
+        z: zoom_axis(r.dims[2], out[2], padding(r, 2)),
     }
 }

@@ -1,4 +1,4 @@
-// Whole numbers in plain decimal.
+// Whole numbers in plain decimal, over a slice and a place as lib.rt says.
 ghost use Rattle.std.specs.Prelude.{◌≡◌, drop};
 ghost use Rattle.text.specs.Numeral.{numeral, after_numeral};
 
