@@ -32,6 +32,10 @@ module _ {A : Type 0} (g : A → A) where
 pub lines_length : {g : List Float → List Float} {k : ℕ} (n : ℕ) (entry lines : List (List Float)) → Through g k (lanes_in n entry) (lanes_in n lines) → length lines ≡ length entry
 lines_length {g} n entry lines t = omega (arith, same_length g t, length-map lines (take n), length-map entry (take n))
 
+-- line k takes its step
+pub line_more : (g : List Float → List Float) (entry lines : List (List Float)) (k : ℕ) (line : List Float) → k < length entry → line ≡ g (get_or lines k []) → Through g k entry lines → Through g (k + 1) entry (set lines k line)
+line_more g entry lines k line there e t = rw e (through_more g [] there t)
+
 -- line k is given its lane
 pub lane_more :
     (g : List Float → List Float) (n : ℕ) (entry lines : List (List Float)) (k : ℕ) (line : List Float) →

@@ -1,5 +1,5 @@
-// The passes over lines, whose first n places hold a lane each. The recursive passes run over four
-// lines at once: their chains of operations do not wait for each other.
+// The passes over lines, whose first n places hold a lane each. The recursive passes run over all lines at once: their
+// chains of operations do not wait for each other.
 #![tactic(auto)]
 
 ghost use Rattle.std.specs.Prelude.{◌≡◌, ◌≤◌, ◌<◌, ◌-◌, ◌+◌, map, length, take};
@@ -20,9 +20,9 @@ pub struct Filter<'a> {
     pub reflect: bool,
 }
 
-// Four lines, whose first n places hold a lane each. n stands beside them: of a line that a loop over Lines lends, the
+// Lines, whose first n places hold a lane each. n stands beside them: of a line that a loop over Lines lends, the
 // front cannot be lent on.
-pub type Lines = [[f64; LONGEST_PADDED]; 4];
+pub type Lines<const LINES: usize> = [[f64; LONGEST_PADDED]; LINES];
 
 fn scale(line: &mut [f64], n: usize, gain: f64)
     requires { n ≤ length line.old }
@@ -141,18 +141,25 @@ fn start_anticausal(line: &mut [f64], n: usize, z: f64, reflect: bool)
     line[n - 1] = init_anticausal(&line[..n], z, reflect);
 }
 
+fn step_forward(line: &mut [f64], i: usize, z: f64)
+    requires { (1 ≤ i) × (i < length line.old) }
+    ensures { line.new ≡ causal_step z i line.old }
+{
+    line[i] = line[i] + z * line[i - 1];
+}
+
 // One step of the forward pass over each line.
-fn causal_step(lines: &mut Lines, i: usize, z: f64)
+fn causal_step<const LINES: usize>(lines: &mut Lines<LINES>, i: usize, z: f64)
     requires { (1 ≤ i) × (i < longest_padded) }
     ensures { lines.new ≡ map (causal_step z i) lines.old }
 {
     for line in lines.iter_mut() {
-        line[i] = line[i] + z * line[i - 1];
+        step_forward(line, i, z);
     }
 }
 
-// The forward pass over four lines.
-fn causal_pass(lines: &mut Lines, n: usize, z: f64)
+// The forward pass over the lines.
+fn causal_pass<const LINES: usize>(lines: &mut Lines<LINES>, n: usize, z: f64)
     requires { n ≤ longest_padded }
     ensures { lanes_in n lines.new ≡ map (causal z) (lanes_in n lines.old) }
 {
@@ -161,18 +168,25 @@ fn causal_pass(lines: &mut Lines, n: usize, z: f64)
     }
 }
 
+fn step_backward(line: &mut [f64], i: usize, z: f64)
+    requires { i + 1 < length line.old }
+    ensures { line.new ≡ anticausal_step z i line.old }
+{
+    line[i] = z * (line[i + 1] - line[i]);
+}
+
 // One step of the backward pass over each line.
-fn anticausal_step(lines: &mut Lines, i: usize, z: f64)
+fn anticausal_step<const LINES: usize>(lines: &mut Lines<LINES>, i: usize, z: f64)
     requires { i + 1 < longest_padded }
     ensures { lines.new ≡ map (anticausal_step z i) lines.old }
 {
     for line in lines.iter_mut() {
-        line[i] = z * (line[i + 1] - line[i]);
+        step_backward(line, i, z);
     }
 }
 
-// The backward pass over four lines.
-fn anticausal_pass(lines: &mut Lines, n: usize, z: f64)
+// The backward pass over the lines.
+fn anticausal_pass<const LINES: usize>(lines: &mut Lines<LINES>, n: usize, z: f64)
     requires le_n { (1 ≤ n) × (n ≤ longest_padded) }
     requires room { Room n lines.old }
     ensures { lanes_in n lines.new ≡ map (anticausal z) (lanes_in n lines.old) }
@@ -183,7 +197,7 @@ fn anticausal_pass(lines: &mut Lines, n: usize, z: f64)
 }
 
 // The starts of the forward pass.
-fn start_causals(lines: &mut Lines, n: usize, pole: Pole, reflect: bool)
+fn start_causals<const LINES: usize>(lines: &mut Lines<LINES>, n: usize, pole: Pole, reflect: bool)
     requires { (2 ≤ n) × (n ≤ longest_padded) }
     ensures { lanes_in n lines.new ≡ map (causal_start reflect pole) (lanes_in n lines.old) }
 {
@@ -193,7 +207,7 @@ fn start_causals(lines: &mut Lines, n: usize, pole: Pole, reflect: bool)
 }
 
 // The starts of the backward pass.
-fn start_anticausals(lines: &mut Lines, n: usize, z: f64, reflect: bool)
+fn start_anticausals<const LINES: usize>(lines: &mut Lines<LINES>, n: usize, z: f64, reflect: bool)
     requires { (2 ≤ n) × (n ≤ longest_padded) }
     ensures after { lanes_in n lines.new ≡ map (anticausal_start reflect z) (lanes_in n lines.old) }
     ensures room { Room n lines.new }
@@ -204,7 +218,7 @@ fn start_anticausals(lines: &mut Lines, n: usize, z: f64, reflect: bool)
 }
 
 // The four steps of one pole.
-fn pass_pole(lines: &mut Lines, n: usize, pole: Pole, reflect: bool)
+fn pass_pole<const LINES: usize>(lines: &mut Lines<LINES>, n: usize, pole: Pole, reflect: bool)
     requires { (2 ≤ n) × (n ≤ longest_padded) }
     ensures { lanes_in n lines.new ≡ map (pass_pole reflect pole) (lanes_in n lines.old) }
 {
@@ -214,7 +228,7 @@ fn pass_pole(lines: &mut Lines, n: usize, pole: Pole, reflect: bool)
     anticausal_pass(lines, n, pole.z);
 }
 
-fn scales(lines: &mut Lines, n: usize, gain: f64)
+fn scales<const LINES: usize>(lines: &mut Lines<LINES>, n: usize, gain: f64)
     requires { n ≤ longest_padded }
     ensures { lanes_in n lines.new ≡ map (map (λ x. x ⊗ gain)) (lanes_in n lines.old) }
 {
@@ -223,8 +237,8 @@ fn scales(lines: &mut Lines, n: usize, gain: f64)
     }
 }
 
-// The whole filter over four lines.
-pub fn filter_lines(lines: &mut Lines, n: usize, filter: Filter)
+// The whole filter over the lines.
+pub fn filter_lines<const LINES: usize>(lines: &mut Lines<LINES>, n: usize, filter: Filter)
     requires { (2 ≤ n) × (n ≤ longest_padded) }
     ensures { lanes_in n lines.new ≡ map (filter_by filter.entry) (lanes_in n lines.old) }
 {

@@ -1,4 +1,4 @@
-// The lanes of a buffer, four at a time: taken into lines, filtered, written back.
+// The lanes of a buffer, as many at a time as there are lines, at most four: taken into them, filtered, written back.
 #![tactic(auto)]
 
 ghost use Rattle.std.specs.Prelude.{◌≡◌, ◌+◌, ◌*◌, ◌-◌, ◌≤◌, ◌<◌, ℕ, [], length, get_or, take};
@@ -62,43 +62,60 @@ fn put_one(data: &mut [f64], line: &[f64], grid: Grid, j: usize)
     }
 }
 
-// Lanes j to j + 3, those that there are.
-fn take_four(lines: &mut Lines, data: &[f64], grid: Grid, j: usize)
+// The next lanes from lane j on, one for each line, those that there are.
+fn take_next<const LINES: usize>(lines: &mut Lines<LINES>, data: &[f64], grid: Grid, j: usize)
+    requires lines { LINES ≤ 4 }
     requires fills { Fills grid (length «data».now) }
     requires j_lt_lanes { j < grid.lanes }
-    ensures { (k : ℕ) → k < 4 → j + k < grid.lanes → take grid.size (get_or lines.new k []) ≡ lane_of grid.size grid.stride ((j + k) * grid.step) «data».now }
+    ensures long { length lines.new ≡ LINES }
+    ensures taken { (k : ℕ) → k < LINES → j + k < grid.lanes → take grid.size (get_or lines.new k []) ≡ lane_of grid.size grid.stride ((j + k) * grid.step) «data».now }
 {
     for (k, line) in lines.iter_mut().enumerate() {
         take_one(line, data, grid, j + k);
     }
 }
 
-fn put_four(data: &mut [f64], lines: &Lines, grid: Grid, j: usize)
+fn put_next<const LINES: usize>(data: &mut [f64], lines: &Lines<LINES>, grid: Grid, j: usize)
+    requires lines { LINES ≤ 4 }
     requires fills { Fills grid (length «data».old) }
     requires j_lt_lanes { j < grid.lanes }
-    ensures { Replaced grid j (j + 4) (λ k. take grid.size (get_or lines.now (k - j) [])) «data».old «data».new }
+    ensures { Replaced grid j (j + LINES) (λ k. take grid.size (get_or lines.now (k - j) [])) «data».old «data».new }
 {
     for (k, line) in lines.iter().enumerate() {
         put_one(data, line, grid, j + k);
     }
 }
 
-fn filter_four(data: &mut [f64], lines: &mut Lines, grid: Grid, j: usize, filter: Filter)
+fn filter_next<const LINES: usize>(
+    data: &mut [f64],
+    lines: &mut Lines<LINES>,
+    grid: Grid,
+    j: usize,
+    filter: Filter,
+)
+    requires lines { LINES ≤ 4 }
     requires fills { Fills grid (length «data».old) }
     requires j_lt_lanes { j < grid.lanes }
-    ensures { Replaced grid j (j + 4) (lanes_by (filter_by filter.entry) grid «data».old) «data».old «data».new }
+    ensures { Replaced grid j (j + LINES) (lanes_by (filter_by filter.entry) grid «data».old) «data».old «data».new }
 {
-    take_four(lines, data, grid, j);
+    take_next(lines, data, grid, j);
     filter_lines(lines, grid.size, filter);
-    put_four(data, lines, grid, j);
+    put_next(data, lines, grid, j);
 }
 
-// All lanes of a buffer that they fill. What the lines hold before does not matter.
-pub fn filter_lanes(data: &mut [f64], lines: &mut Lines, grid: Grid, filter: Filter)
-    requires { Fills grid (length «data».old) }
+// All lanes of a buffer that they fill, as many at once as there are lines. What the lines hold before does not
+// matter.
+pub fn filter_lanes<const LINES: usize>(
+    data: &mut [f64],
+    lines: &mut Lines<LINES>,
+    grid: Grid,
+    filter: Filter,
+)
+    requires lines { (1 ≤ LINES) × (LINES ≤ 4) }
+    requires fills { Fills grid (length «data».old) }
     ensures { «data».new ≡ filter_along (filter_by filter.entry) grid.size grid.stride «data».old }
 {
-    for j in (0..grid.lanes).step_by(4) {
-        filter_four(data, lines, grid, j, filter);
+    for j in (0..grid.lanes).step_by(LINES) {
+        filter_next(data, lines, grid, j, filter);
     }
 }

@@ -7,4 +7,4 @@ use Rattle.lane.proofs.Passes.{backward}
 use Rattle.lane.proofs.anticausal_pass.Given as goal
 
 abbrev pub invariant-loop-i : goal.invariant-loop-i
-invariant-loop-i l = lanes_in l.n l.lines ≡ map (backward l.z l.n (l.n - 1 - l.i)) (lanes_in l.n l.initial.lines)
+invariant-loop-i g l = lanes_in l.n l.lines ≡ map (backward l.z l.n (l.n - 1 - l.i)) (lanes_in l.n l.initial.lines)

@@ -7,4 +7,4 @@ use Rattle.lane.specs.Bookkeeping.{lanes_in, filter_by}
 use Rattle.lane.proofs.filter_lines.Given as goal
 
 abbrev pub invariant-loop-pole : goal.invariant-loop-pole
-invariant-loop-pole l = map (pass_poles l.filter.reflect (drop l.pole-index l.filter.poles.now)) (lanes_in l.n l.lines) ≡ map (filter_by l.filter) (lanes_in l.n l.fn.lines)
+invariant-loop-pole g l = map (pass_poles l.filter.reflect (drop l.pole-index l.filter.poles.now)) (lanes_in l.n l.lines) ≡ map (filter_by l.filter) (lanes_in l.n l.fn.lines)

@@ -4,4 +4,4 @@ use Rattle.lane.proofs.Lines.{lane_more}
 use Rattle.lane.proofs.scales.Goals as goal
 
 pub loop-line-preserved : goal.loop-line-preserved
-loop-line-preserved c = lane_more _ _ _ _ _ _ (omega arith) c.scale.ensures c.loop-line.invariant
+loop-line-preserved g c = lane_more _ _ _ _ _ _ (omega arith) c.scale.ensures c.loop-line.invariant

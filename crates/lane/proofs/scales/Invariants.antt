@@ -6,4 +6,4 @@ use Rattle.lane.proofs.Lines.{Through}
 use Rattle.lane.proofs.scales.Given as goal
 
 abbrev pub invariant-loop-line : goal.invariant-loop-line
-invariant-loop-line l = Through (map (λ x. x ⊗ l.gain)) l.line-index (lanes_in l.n l.initial.lines) (lanes_in l.n l.lines)
+invariant-loop-line g l = Through (map (λ x. x ⊗ l.gain)) l.line-index (lanes_in l.n l.initial.lines) (lanes_in l.n l.lines)

@@ -8,5 +8,5 @@ use Rattle.lane.proofs.Lines.{Through}
 use Rattle.lane.proofs.start_anticausals.Given as goal
 
 abbrev pub invariant-loop-line : goal.invariant-loop-line
-invariant-loop-line l =
+invariant-loop-line g l =
     Through (anticausal_start l.reflect l.z) l.line-index (lanes_in l.n l.initial.lines) (lanes_in l.n l.lines) × ((m : ℕ) (d : List Float) → m < l.line-index → l.n ≤ length (get_or l.lines m d))

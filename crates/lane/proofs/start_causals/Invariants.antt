@@ -4,4 +4,4 @@ use Rattle.lane.proofs.Lines.{Through}
 use Rattle.lane.proofs.start_causals.Given as goal
 
 abbrev pub invariant-loop-line : goal.invariant-loop-line
-invariant-loop-line l = Through (causal_start l.reflect l.pole) l.line-index (lanes_in l.n l.initial.lines) (lanes_in l.n l.lines)
+invariant-loop-line g l = Through (causal_start l.reflect l.pole) l.line-index (lanes_in l.n l.initial.lines) (lanes_in l.n l.lines)
