@@ -43,14 +43,11 @@ impl<'a> Iterator for Calls<'a> {
     ghost remaining = { λ s. at_most s.left };
 
     fn next(&mut self) -> Option<Call<'a>> {
-        if self.left == 0 {
-            return None;
-        }
+        self.left = self.left.checked_sub(1)?;
         let call = Call {
             file: self.file,
             words: self.rest,
         };
-        self.left -= 1;
         self.rest = self.rest.after(CALL);
         Some(call)
     }
