@@ -1,2 +1,3 @@
--- What a word stands for.
+-- What a word stands for, and what a comparison counts.
 pub mod Numbers
+pub mod Replays

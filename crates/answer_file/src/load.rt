@@ -6,7 +6,8 @@ use std::fs;
 use std::io::Read;
 use std::rt::Files;
 
-// Stores as many words as there is room for, and answers how many these are.
+// Stores as many words as there is room for, and answers how many these are. Not words::read_words, which
+// asks for equal lengths.
 fn put_words(words: &mut [u64], bytes: &[u8]) -> usize
     ensures { result ≤ length words.old }
 {
@@ -57,7 +58,9 @@ fn load_from(file: &mut impl Read, words: &mut [u64]) -> usize
 
 // The file `answers`, in the places of `words`. One that cannot be opened has no words, and standard
 // error says why.
-pub fn load<'a>(rt: &(impl Files + Eprint), words: &'a mut [u64]) -> Words<'a> {
+pub fn load<'a>(rt: &(impl Files + Eprint), words: &'a mut [u64]) -> Words<'a>
+    ensures { length result.0.now ≤ length words.old }
+{
     match fs::open(rt, "answers") {
         Ok(mut file) => {
             let n = load_from(&mut file, words);

@@ -1,6 +1,7 @@
 // A replay: the words that are still to come, how many numbers it has compared, and how many differ.
-ghost use Rattle.std.specs.Prelude.{◌≡◌, ◌+◌, ◌%◌, ◌^◌, drop, length, nat_eq, slice_index, if◌then◌else◌};
+ghost use Rattle.std.specs.Prelude.{◌≡◌, ◌+◌, ◌%◌, ◌^◌, false, drop, length, nat_eq, slice_index};
 ghost use Rattle.answer_file.specs.Numbers.{has_bits};
+ghost use Rattle.answer_file.specs.Replays.{Counted};
 
 use crate::words::Words;
 
@@ -33,8 +34,7 @@ impl<'a> Replay<'a> {
     // The counts stay far below 2^64.
     pub fn count(&mut self, same: bool)
         ensures rest { self.new.rest.0.now ≡ self.old.rest.0.now }
-        ensures compared { self.new.compared ≡ (self.old.compared + 1) % 2 ^ 64 }
-        ensures differ { self.new.differ ≡ (if same then self.old.differ else (self.old.differ + 1) % 2 ^ 64) }
+        ensures counts { Counted same self.old self.new }
     {
         self.compared = self.compared.wrapping_add(1);
         self.differ = self.differ.wrapping_add(u64::from(!same));
@@ -43,8 +43,7 @@ impl<'a> Replay<'a> {
     // A case that is not one of its kind counts as a difference.
     pub fn refuse(&mut self)
         ensures rest { self.new.rest.0.now ≡ self.old.rest.0.now }
-        ensures compared { self.new.compared ≡ (self.old.compared + 1) % 2 ^ 64 }
-        ensures differ { self.new.differ ≡ (self.old.differ + 1) % 2 ^ 64 }
+        ensures counts { Counted false self.old self.new }
     {
         self.count(false);
     }
@@ -58,8 +57,7 @@ impl<'a> Replay<'a> {
 
     pub fn expect_bits(&mut self, x: f64, bits: u64)
         ensures rest { self.new.rest.0.now ≡ self.old.rest.0.now }
-        ensures compared { self.new.compared ≡ (self.old.compared + 1) % 2 ^ 64 }
-        ensures differ { self.new.differ ≡ (if has_bits x bits then self.old.differ else (self.old.differ + 1) % 2 ^ 64) }
+        ensures counts { Counted (has_bits x bits) self.old self.new }
     {
         self.count(has_bits(x, bits));
     }
@@ -67,8 +65,7 @@ impl<'a> Replay<'a> {
     // Compares x with the next word.
     pub fn expect_float(&mut self, x: f64)
         ensures rest { self.new.rest.0.now ≡ drop 1 self.old.rest.0.now }
-        ensures compared { self.new.compared ≡ (self.old.compared + 1) % 2 ^ 64 }
-        ensures differ { self.new.differ ≡ (if has_bits x (slice_index self.old.rest.0.now 0) then self.old.differ else (self.old.differ + 1) % 2 ^ 64) }
+        ensures counts { Counted (has_bits x (slice_index self.old.rest.0.now 0)) self.old self.new }
     {
         self.expect_bits(x, self.rest.word(0));
         self.skip(1);
@@ -76,8 +73,7 @@ impl<'a> Replay<'a> {
 
     pub fn expect_whole(&mut self, n: u64)
         ensures rest { self.new.rest.0.now ≡ drop 1 self.old.rest.0.now }
-        ensures compared { self.new.compared ≡ (self.old.compared + 1) % 2 ^ 64 }
-        ensures differ { self.new.differ ≡ (if nat_eq (slice_index self.old.rest.0.now 0) n then self.old.differ else (self.old.differ + 1) % 2 ^ 64) }
+        ensures counts { Counted (nat_eq (slice_index self.old.rest.0.now 0) n) self.old self.new }
     {
         self.count(self.rest.word(0) == n);
         self.skip(1);

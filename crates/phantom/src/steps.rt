@@ -42,7 +42,7 @@ impl Step {
         ensures { IfSome result (λ source. source < length) }
     {
         let source = index.checked_add(self.down)?.checked_sub(self.up)?;
-        if source < length { Some(source) } else { None }
+        (source < length).then_some(source)
     }
 
     // How many indices of an axis stay inside.

@@ -3,6 +3,7 @@
 // they stand.
 ghost use Rattle.std.specs.Prelude.{◌≡◌, ◌≤◌, drop, length, slice_index, nat_eq, IsTrue, if◌then◌else◌};
 ghost use Rattle.recorded.specs.Bookkeeping.{input_room, output_room, work_room};
+ghost use Rattle.recorded.specs.Calls.{asked, small};
 ghost use Rattle.recorded.specs.Entries.{entry_of};
 
 use crate::entry::Entry;
@@ -56,12 +57,16 @@ impl<'a> Call<'a> {
     }
 
     // A word as a small number; 255 stands for any above it.
-    fn small(self, k: usize) -> u32 {
+    fn small(self, k: usize) -> u32
+        ensures { result ≡ small (slice_index self.entry.words.0.now k) }
+    {
         self.words.whole(k).min(255) as u32
     }
 
     // What the call asks for.
-    pub fn request(self) -> Request {
+    pub fn request(self) -> Request
+        ensures { result ≡ asked self.entry.words.0.now }
+    {
         let words = self.words;
         request_of(
             words.whole(1),

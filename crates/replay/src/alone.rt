@@ -4,7 +4,6 @@ ghost use Rattle.std.specs.Prelude.{◌<◌};
 
 use answer_file::replay::Replay;
 use answer_file::words::Words;
-use one_voxel::{shift_voxel, zoom_voxel};
 use recorded::call::{BLANK, Call, INPUT_ROOM, NO_CODE, OUTPUT_ROOM};
 use recorded::calls::Calls;
 use recorded::entry::Entry;
@@ -12,13 +11,27 @@ use refusal::{Refusal, number_in};
 use request::Request;
 use std::io;
 
-// A call that succeeded, and what it is asked for a voxel with.
+// The entry for one voxel.
+type Voxel = fn(Request, &[f64], &[f64], [usize; 3], &mut [f64], &mut [u8]) -> Result<(), Refusal>;
+
+// A call that succeeded, and the entry and the buffers that its voxels are asked for with.
 #[derive(Drop)]
-struct Asked<'a> {
+struct Done<'a> {
     call: Call<'a>,
+    voxel: Voxel,
     request: Request,
     input: &'a [f64],
     work: &'a [f64],
+    ghost callable: { Voxel.IsAlwaysCallable voxel },
+}
+
+// The lengths of an output that has places on the last two axes.
+#[derive(Clone, Copy)]
+struct Output {
+    x: usize,
+    y: usize,
+    z: usize,
+    ghost some: { (0 < y) × (0 < z) },
 }
 
 // The answer for a voxel, and what the places of value and code hold after it: a byte, as they are lent.
@@ -38,44 +51,34 @@ fn along(axis: usize, n: usize) -> [usize; 3] {
     }
 }
 
-// The index of the output's place k, the last axis running fastest.
-fn index_of(y: usize, z: usize, k: usize) -> [usize; 3]
-    requires { (0 < y) × (0 < z) }
-{
-    let row = k / z;
-    [row / y, row % y, k % z]
+impl Output {
+    // The index of place k, the last axis running fastest.
+    fn index_of(self, k: usize) -> [usize; 3] {
+        let row = k / self.z;
+        [row / self.y, row % self.y, k % self.z]
+    }
 }
 
+// value and code are words of the file.
 fn expect_told(r: &mut Replay, told: Told, answer: Result<(), Refusal>, value: u64, code: u64) {
     r.count(number_in(told.answer) == number_in(answer));
     r.expect_bits(told.value, value);
     r.count(u64::from(told.code) == code);
 }
 
-impl<'a> Asked<'a> {
+impl<'a> Done<'a> {
     // What the call's request is told of one index.
     fn ask(&self, index: [usize; 3]) -> Told {
         let mut value = [BLANK];
         let mut code = [NO_CODE];
-        let answer = if self.call.entry() == Entry::Shift {
-            shift_voxel(
-                self.request,
-                self.input,
-                self.work,
-                index,
-                &mut value,
-                &mut code,
-            )
-        } else {
-            zoom_voxel(
-                self.request,
-                self.input,
-                self.work,
-                index,
-                &mut value,
-                &mut code,
-            )
-        };
+        let answer = (self.voxel)(
+            self.request,
+            self.input,
+            self.work,
+            index,
+            &mut value,
+            &mut code,
+        );
         Told {
             answer,
             value: value[0],
@@ -103,22 +106,18 @@ impl<'a> Asked<'a> {
 
     // The place behind the output's last is the first that the lengths leave outside, and each axis
     // ends there.
-    fn expect_lengths(&self, r: &mut Replay, x: usize, y: usize, z: usize)
-        requires { (0 < y) × (0 < z) }
-    {
-        r.count(index_of(y, z, self.call.output_length()) == [x, 0, 0]);
-        self.expect_outside(r, 0, x);
-        self.expect_outside(r, 1, y);
-        self.expect_outside(r, 2, z);
+    fn expect_lengths(&self, r: &mut Replay, output: Output) {
+        r.count(output.index_of(self.call.output_length()) == [output.x, 0, 0]);
+        self.expect_outside(r, 0, output.x);
+        self.expect_outside(r, 1, output.y);
+        self.expect_outside(r, 2, output.z);
     }
 
-    fn expect_voxels(&self, r: &mut Replay, y: usize, z: usize)
-        requires { (0 < y) × (0 < z) }
-    {
+    fn expect_voxels(&self, r: &mut Replay, output: Output) {
         let values = self.call.value_words();
         let codes = self.call.code_words();
         for k in 0..self.call.output_length() {
-            let told = self.ask(index_of(y, z, k));
+            let told = self.ask(output.index_of(k));
             expect_told(r, told, Ok(()), values.word(k), codes.word(k));
         }
     }
@@ -132,14 +131,21 @@ impl<'a> Asked<'a> {
             r.refuse();
             return 0;
         }
-        self.expect_lengths(r, x, y, z);
-        self.expect_voxels(r, y, z);
+        let output = Output { x, y, z };
+        self.expect_lengths(r, output);
+        self.expect_voxels(r, output);
         self.call.output_length()
     }
 }
 
 // The voxels of a call that succeeds, and how many these are.
-fn ask_call(call: Call, r: &mut Replay) -> Option<usize> {
+fn ask_call(
+    call: Call,
+    r: &mut Replay,
+    voxel: Voxel,
+) -> Option<usize>
+    requires { Voxel.IsAlwaysCallable voxel }
+{
     if !call.is_call() {
         return None;
     }
@@ -149,21 +155,29 @@ fn ask_call(call: Call, r: &mut Replay) -> Option<usize> {
     let places = call.work_length();
     let mut input = [0.0; INPUT_ROOM];
     call.input_words().put_floats(&mut input[..n]);
-    let asked = Asked {
+    let done = Done {
         call,
+        voxel,
         request: call.request(),
         input: &input[..n],
         work: &made.work[..places],
     };
-    Some(asked.expect_output(r))
+    Some(done.expect_output(r))
 }
 
 // Writes the line of one entry.
-pub fn alone_line(rt: &impl Print, file: Words, entry: Entry) -> io::Result<()> {
+pub fn alone_line(
+    rt: &impl Print,
+    file: Words,
+    entry: Entry,
+    voxel: Voxel,
+) -> io::Result<()>
+    requires { Voxel.IsAlwaysCallable voxel }
+{
     let mut r = Replay::new(file);
     let mut voxels = 0usize;
     for call in Calls::of(file).filter(|call| call.entry() == entry) {
-        voxels = voxels.wrapping_add(ask_call(call, &mut r).unwrap_or(0));
+        voxels = voxels.wrapping_add(ask_call(call, &mut r, voxel).unwrap_or(0));
     }
     println!(rt;
         "{entry}_voxel: {voxels} voxels one by one, compared {} differ {}",

@@ -15,6 +15,7 @@ use answer_file::replay::Replay;
 use answer_file::words::Words;
 use compare::expect_made;
 use ends::Ends;
+use one_voxel::{shift_voxel, zoom_voxel};
 use recorded::call::Call;
 use recorded::calls::{Calls, after_calls, calls_for};
 use recorded::entry::Entry;
@@ -50,8 +51,8 @@ fn replay_all(rt: &impl Print, file: Words) -> io::Result<()> {
     for entry in Entry::ALL {
         replay_line(rt, file, entry)?;
     }
-    alone_line(rt, file, Entry::Shift)?;
-    alone_line(rt, file, Entry::Zoom)?;
+    alone_line(rt, file, Entry::Shift, shift_voxel)?;
+    alone_line(rt, file, Entry::Zoom, zoom_voxel)?;
     say_end(rt, after_calls(file))
 }
 

@@ -56,9 +56,9 @@ pub fn weights_case(r: &mut Replay) {
 fn expect_record(r: &mut Replay, t: Point, count: usize)
     requires { count ≤ 6 }
 {
-    let is_kept = r.rest.word(0) == 0;
+    let reads = r.rest.word(0) == 0;
     r.expect_whole(t.mark as u64);
-    if is_kept {
+    if reads {
         r.expect_floats(&t.weight[..count]);
         for neighbour in &t.at[..count] {
             r.expect_whole(*neighbour as u64);
@@ -66,15 +66,17 @@ fn expect_record(r: &mut Replay, t: Point, count: usize)
     }
 }
 
-// A shift within 2^20. Not one with zoomed: the numbers that they are asked for in differ.
+// A shift within 2^20. Not one with zoomed: a shift is a float and an output length a whole number, each
+// with limits of its own.
 fn shifted(length: usize, shift: f64, pad: usize) -> Option<Axis>
     requires { (2 ≤ length) × ((length ≤ longest) × (pad ≤ 12)) }
     ensures { IfSome result (λ a. Reachable a) }
 {
     if shift >= -1048576.0 && shift <= 1048576.0 {
-        return Some(shift_axis(length, shift, pad));
+        Some(shift_axis(length, shift, pad))
+    } else {
+        None
     }
-    None
 }
 
 fn zoomed(length: usize, output: usize, pad: usize) -> Option<Axis>
@@ -82,9 +84,10 @@ fn zoomed(length: usize, output: usize, pad: usize) -> Option<Axis>
     ensures { IfSome result (λ a. Reachable a) }
 {
     if output >= 2 && output <= LONGEST {
-        return Some(zoom_axis(length, output, pad));
+        Some(zoom_axis(length, output, pad))
+    } else {
+        None
     }
-    None
 }
 
 // The header starts with 0 for a shift or 1 for a zoom, the length, the shift or the output length,

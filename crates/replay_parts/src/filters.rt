@@ -21,12 +21,14 @@ pub fn count_of(d: [usize; 3]) -> Option<usize>
     ensures { IfSome result (λ n. Counted d n) }
 {
     if is_short(d[0]) && is_short(d[1]) && is_short(d[2]) {
-        return Some(d[0] * (d[1] * d[2]));
+        Some(d[0] * (d[1] * d[2]))
+    } else {
+        None
     }
-    None
 }
 
-// Filters along an axis, or along all three where `axis` is 3, if that is asked for as it may be.
+// Filters along an axis, or along all three where `axis` is above 2 (the file has 3), if that is asked for
+// as it may be.
 fn filter(volume: &mut [f64], d: [usize; 3], axis: usize, order: usize, mode: BorderMode) {
     let Some(n) = count_of(d) else {
         return;

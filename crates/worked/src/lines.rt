@@ -51,26 +51,26 @@ impl<'a, R: Print> Lines<'a, R> {
         requires may_call { F.IsAlwaysCallable entry }
         requires some { 0 < lane }
     {
-        let rt = self.rt;
         let mut output = [BLANK; PLACES];
         let mut coverage = [NO_CODE; PLACES];
         let mut work = [BLANK; 16];
         let answer = entry(r, input, &mut output, &mut coverage, &mut work);
-        print!(rt; "{name}:")?;
+        print!(self.rt; "{name}:")?;
         match answer {
-            Ok(_) => print_lanes(rt, &output, &coverage, lane)?,
+            Ok(_) => print_lanes(self.rt, &output, &coverage, lane)?,
             Err(why) => {
                 let untouched = is_blank(&output)
                     && is_blank(&work)
                     && coverage.iter().all(|code| *code == NO_CODE);
-                print!(rt; "{}", Refused { why, untouched })?;
+                print!(self.rt; "{}", Refused { why, untouched })?;
             }
         }
-        print!(rt; "; counts{}", Tally(counts_in(answer)))?;
+        print!(self.rt; "; counts{}", Tally(counts_in(answer)))?;
         self.end()?;
         Ok(output)
     }
 
+    // Each entry by its name, with the sizes that come of it.
     pub fn shift(&mut self, name: &str, r: Request, input: &[f64]) -> io::Result<[f64; 16]> {
         self.resampled(name, shift, r, input, 4)
     }
@@ -83,15 +83,14 @@ impl<'a, R: Print> Lines<'a, R> {
     // The line of a shift of 7 by 7 by 7 voxels: the codes of the lane in the middle, to which the
     // other two axes say 0.
     pub fn middle(&mut self, order: usize, r: Request) -> io::Result<()> {
-        let rt = self.rt;
         let input = [1.0; 343];
         let mut output = [BLANK; 343];
         let mut coverage = [NO_CODE; 343];
         let mut work = [BLANK; 1];
         let answer = shift(r, &input, &mut output, &mut coverage, &mut work);
         let codes = Codes(&coverage[168..175]);
-        print!(rt; "axis of 7, shift 0, order {order}: codes{codes}")?;
-        print!(rt; "; counts{}", Tally(counts_in(answer)))?;
+        print!(self.rt; "axis of 7, shift 0, order {order}: codes{codes}")?;
+        print!(self.rt; "; counts{}", Tally(counts_in(answer)))?;
         self.end()
     }
 
@@ -102,13 +101,12 @@ impl<'a, R: Print> Lines<'a, R> {
         verdict: Result<(), Refusal>,
         output: &[f64],
     ) -> io::Result<()> {
-        let rt = self.rt;
-        print!(rt; "{name}:")?;
+        print!(self.rt; "{name}:")?;
         match verdict {
-            Ok(()) => print!(rt; "{}", Numbers(output))?,
+            Ok(()) => print!(self.rt; "{}", Numbers(output))?,
             Err(why) => {
                 let untouched = is_blank(output);
-                print!(rt; "{}", Refused { why, untouched })?;
+                print!(self.rt; "{}", Refused { why, untouched })?;
             }
         }
         self.end()
