@@ -56,6 +56,7 @@ impl<'a> Sampling<'a> {
         ensures work { work.new ≡ work_after self.now.r self.now.input.now work.old }
     {
         let Axes { x, y, z } = self.axes;
+        // a sweep in each: the borrow check does not know a reference that is one of two
         if filters(self.r) {
             let front = &mut work[..needed(self.r)];
             self.prepare(front);
