@@ -1,13 +1,11 @@
 -- The coefficients: what is padded, what is filtered, and how many places that needs.
 use Prim.Native.Nat.{ℕ, zero, suc, ◌+◌, ◌*◌, ◌≤◌, ◌<◌}
 use native.Mathlib.Omega.{arith}
-use mathlib.Core.Path.{◌≡◌, refl, sym, ap, ◌∙◌}
-use mathlib.Core.Bool.{Bool, true, false, ◌&&◌, cond, true≢false}
+use mathlib.Core.Path.{◌≡◌, refl, ap, ◌∙◌}
+use mathlib.Core.Bool.{Bool, true, false, cond}
 use mathlib.Core.List.{List, [], ◌∷◌, ◌++◌}
-use lib.Dec.{ltb}
 use lib.ListN.{get_or, drop}
 use lib.Ieee.{Float}
-use borrow.Author.Tests.{ltb-true}
 use Rattle.limits.specs.Limits.{edge_of, wide_of}
 use Rattle.edge.specs.Edge.{padded, padded_dims}
 use Rattle.prefilter.specs.Volume.{filter_volume, length_of, count_of}
@@ -17,10 +15,6 @@ use Rattle.request.specs.Sizes.{filters, edges, source_length, source_dims, need
 use Rattle.request.specs.Bookkeeping.{Lengths}
 use Rattle.resample.specs.Call.{source_of, coefficients, work_after}
 use Rattle.request.proofs.Requests.{padding_most}
-
--- lengths that refusal 3 lets pass, and a buffer of as many places
-pub sized : (d : List ℕ) (count : ℕ) → Lengths d → count ≡ count_of d → Sized d count
-sized d count h c = record { least = λ axis l. (h axis l).0; most = λ axis l. omega (arith, h axis l); all = c }
 
 module _ (r : Request) where
   -- ---- without edge copies
@@ -53,13 +47,6 @@ module _ (r : Request) where
       each (suc zero) l = one 1 l
       each (suc (suc zero)) l = one 2 l
       each (suc (suc (suc n))) l = absurd (omega arith)
-
-  pub filters_from_2 : filters r ≡ true → 2 ≤ r.order
-  filters_from_2 e = ltb-true 1 r.order (go r.prefilter (ltb 1 r.order) e)
-    where
-      go : (a b : Bool) → (a && b) ≡ true → b ≡ true
-      go true b e = e
-      go false b e = absurd (true≢false (sym e))
 
   -- ---- what is computed
   pub filtered : (input : List Float) {d : List ℕ} {ws : List Float} → filters r ≡ true → d ≡ source_dims r → ws ≡ source_of r input → filter_volume r.mode r.order d ws ≡ coefficients r input

@@ -1,2 +1,3 @@
 -- The four entries: what a call means.
 pub mod Call
+pub mod Bookkeeping

@@ -4,7 +4,7 @@
 ghost use Rattle.std.specs.Prelude.{◌≡◌};
 ghost use Rattle.resample.specs.Call.{counts_in, call_of, shift_call, zoom_call, filter_call_of, spline_filter_call, spline_filter1d_call};
 
-use crate::write::write;
+use crate::write::Sampling;
 use coverage::counts::Counts;
 use prefilter::{filter_axis, filter_volume};
 use refusal::verdicts::{
@@ -43,7 +43,8 @@ pub fn shift(
         coverage.len(),
         work.len(),
     )?;
-    Ok(write(r, shift_axes(r), input, output, coverage, work))
+    let axes = shift_axes(r);
+    Ok(Sampling { r, axes, input }.write(output, coverage, work))
 }
 
 pub fn zoom(
@@ -63,8 +64,8 @@ pub fn zoom(
         coverage.len(),
         work.len(),
     )?;
-    let a = zoom_axes(r, zoom_dims(r));
-    Ok(write(r, a, input, output, coverage, work))
+    let axes = zoom_axes(r, zoom_dims(r));
+    Ok(Sampling { r, axes, input }.write(output, coverage, work))
 }
 
 pub fn spline_filter(r: Request, input: &[f64], output: &mut [f64]) -> Result<(), Refusal>

@@ -1,9 +1,7 @@
 -- `resample::shift` meets its contract.
-use Prim.Native.Nat.{◌*◌}
-use mathlib.Core.Path.{◌≡◌, ◌∙◌, sym, subst}
+use mathlib.Core.Path.{◌≡◌, ◌∙◌, sym}
 use lib.ListN.{length}
 use Rattle.prefilter.specs.Volume.{count_of}
-use Rattle.request.specs.declared.Axes.{Axes}
 use Rattle.refusal.specs.declared.Asked.TheVariants.{Volume}
 use Rattle.request.specs.Sizes.{shift_axes}
 use Rattle.refusal.specs.Bookkeeping.{Passes}
@@ -11,7 +9,7 @@ use Rattle.refusal.specs.Refusals.{first, shift_checks}
 use Rattle.refusal.proofs.Firsts.{passed_up}
 use Rattle.resample.specs.Call.{shift_call}
 use Rattle.refusal.proofs.Admitting.{shift_passes}
-use Rattle.resample.proofs.Answering.{call_passed, call_refused}
+use Rattle.resample.proofs.Answering.{write_passes, call_passed, call_refused}
 use Rattle.resample.proofs.shift.Goals.{In_ok-shift_verdict}
 use Rattle.resample.proofs.shift.Goals as goal
 use Rattle.std.specs.Prelude.{Ok}
@@ -24,19 +22,21 @@ module _ (c : In_ok-shift_verdict) where
   passes : Passes c.args.r (shift_axes c.args.r) (count_of c.args.r.dims) (length c.args.input.now) (length c.args.output.now) (length c.args.coverage.now) (length c.args.work.now)
   passes = shift_passes Volume c.args.r c.args.input.now (length c.args.output.now) (length c.args.coverage.now) (length c.args.work.now) cleared
 
-pub shift_axes-requires : goal.shift_axes-requires
-shift_axes-requires c = (passes c).admitted.lengths
+pub shift_axes-axes-requires : goal.shift_axes-axes-requires
+shift_axes-axes-requires c = (passes c).admitted.lengths
+
+pub invariant_of-write : goal.invariant_of-write
+invariant_of-write c = record { admitted = (write_passes c.shift_axes-axes.ensures (passes (goal.at.invariant_of-write c).In_ok-shift_verdict)).admitted }
 
 pub write-requires : goal.write-requires
 write-requires c =
-    let a = c.args in
-    subst (λ (x : Axes). Passes a.r x (x.x.out * (x.y.out * x.z.out)) (length a.input.now) (length a.output.now) (length a.coverage.now) (length a.work.now)) (sym c.shift_axes.ensures) (passes (goal.at.write-requires c).In_ok-shift_verdict)
+    let p = write_passes c.shift_axes-axes.ensures (passes (goal.at.write-requires c).In_ok-shift_verdict) in record { lengths = (p.values, p.codes); room = p.room }
 
 pub returns : goal.returns
 unfolding shift_call
 returns c =
     let a = c.args in
-    let axes = c.shift_axes in
+    let axes = c.shift_axes-axes in
     call_passed a.r a.input.now a.output.now a.coverage.now a.work.now axes.result (shift_axes a.r) (cleared (goal.at.returns c).In_ok-shift_verdict) axes.ensures c.write.ensures
 
 pub returns-in_err-shift_verdict : goal.returns-in_err-shift_verdict
