@@ -17,6 +17,7 @@ use request::sizes::{shift_axes, zoom_axes, zoom_dims};
 use request::{Axes, Request};
 
 pub mod point;
+mod records;
 mod sum;
 mod value;
 

@@ -1,15 +1,16 @@
 // The value of one voxel: the records of its three indices, and the sum that they ask for.
-ghost use Rattle.std.specs.Prelude.{◌≡◌, ◌&&◌, ◌+◌, ◌*◌, ◌≤◌, length, get_or};
+ghost use Rattle.std.specs.Prelude.{◌≡◌, ◌&&◌, ◌*◌, ◌≤◌, length, get_or};
 ghost use Rattle.limits.specs.Limits.{longest_padded};
 ghost use Rattle.axis.specs.Point.{is_kept};
 ghost use Rattle.axis.specs.Bookkeeping.{Reached};
 ghost use Rattle.request.specs.Sizes.{needed};
 ghost use Rattle.refusal.specs.Bookkeeping.{Admitted};
 ghost use Rattle.voxels.specs.Voxel.{tap_of, voxel_at};
-ghost use Rattle.voxels.specs.Bookkeeping.{InSource, Planes, computed_of};
+ghost use Rattle.voxels.specs.Bookkeeping.{computed_of};
 ghost use Rattle.one_voxel.specs.Call.{lent_source};
 ghost use Rattle.one_voxel.specs.Bookkeeping.{Inside};
 
+use crate::records::Records;
 use crate::sum::sum_at;
 use axis::point::{Point, point_at};
 use border::BorderMode;
@@ -26,15 +27,14 @@ fn all_kept(x: &Point, y: &Point, z: &Point) -> bool
 }
 
 // What three records of kept indices read.
-fn computed_at(source: &Source, x: &Point, y: &Point, z: &Point) -> f64
-    requires in_source { InSource source.now x.now y.now }
-    requires places { Planes z.now.at (source.now.order + 1) 1 source.now.row }
-    ensures { result ≡ computed_of source.now (tap_of x.now) (tap_of y.now) (tap_of z.now) }
+fn computed_at(r: &Records) -> f64
+    ensures { result ≡ computed_of r.now.source (tap_of r.now.x.now) (tap_of r.now.y.now) (tap_of r.now.z.now) }
 {
+    let source = &r.source;
     if source.order == 0 {
-        source.numbers[x.at[0] * source.plane + (y.at[0] * source.row + z.at[0])]
+        source.plane_at(r.x.at[0])[source.row_at(r.y.at[0]) + r.z.at[0]]
     } else {
-        sum_at(source, x, y, z)
+        sum_at(r)
     }
 }
 
@@ -55,7 +55,13 @@ fn value_at(data: &[f64], a: Axes, order: usize, mode: BorderMode, at: [usize; 3
             row: a.z.len,
             order,
         };
-        computed_at(&source, &x, &y, &z)
+        let r = Records {
+            source,
+            x: &x,
+            y: &y,
+            z: &z,
+        };
+        computed_at(&r)
     } else {
         drop_value(mode)
     }

@@ -9,6 +9,7 @@ use lib.ListN.{get_or, take, drop}
 use lib.Ieee.{Float, nan}
 use Rattle.lists.proofs.Stretches.{next, in_part}
 use Rattle.voxels.specs.declared.sum.Four.{Four}
+use Rattle.voxels.specs.declared.row.Row.{Row}
 use Rattle.voxels.specs.declared.table.Table.{Table}
 use Rattle.exact.specs.Rounded.{◌⊗◌}
 use Rattle.voxels.specs.Bookkeeping.{column, Each, lane, at_lane}
@@ -46,6 +47,10 @@ room i p count place h l = record { ends = next i p; least = least i p (omega ar
 -- a place of a stretch lies within what the stretches fill
 pub within : (j p z count : ℕ) → z < p → (j + 1) * p ≤ count → j * p + z < count
 within j p z count h l = omega (arith, next j p)
+
+-- a place of a row that the record of axis 1 names lies in the plane
+pub in_plane : (r : Row) (k place : ℕ) → k < r.source.order + 1 → place < r.source.row → get_or r.y.now.at k 0 * r.source.row + place < r.source.plane
+in_plane r k place h l = within _ _ _ _ l (r.in_source.rows k h)
 
 -- ---- one turn more
 module _ (xs : List Float) (p : ℕ) (x : Tap) (place : ℕ) (v s : Float) (k : ℕ) {t r : Float} where

@@ -8,7 +8,7 @@ use mathlib.Core.Logic.{dite, inl, inr}
 use mathlib.Core.Bool.{Bool, true, false, ◌&&◌, cond}
 use mathlib.Core.List.{List}
 use lib.Dec.{leb, eqb}
-use lib.ListN.{length, get_or, set, replicate, length-set, length-replicate, get_or-replicate, get_or-eq_default}
+use lib.ListN.{length, get_or, set, replicate, length-set, get_or-replicate, get_or-eq_default}
 use lib.Seq.{get_or-set_same, get_or-set_other}
 use lib.Ieee.{Float, nan}
 use borrow.Author.Tests.{leb-true}
@@ -85,11 +85,11 @@ point_inside order mode a i k r =
 
 -- ---- one output index more
 pub tabled_more :
-    (order : ℕ) (mode : BorderMode) (a : Axis) (i : ℕ) (t t' : Table) (p : Point) → p ≡ point_at order mode a i → Reached order a i → i < 4096 → length t.at ≡ 24580 →
+    (order : ℕ) (mode : BorderMode) (a : Axis) (i : ℕ) (t t' : Table) (p : Point) → p ≡ point_at order mode a i → Reached order a i → i < 4096 →
     Filled (kept_at mode a) false t'.kept (i + 1) → Column 0 i p.at t.at t'.at 6 → Column nan i p.weight t.weight t'.weight 6 → Tabled order mode a t i → Tabled order mode a t' (i + 1)
-tabled_more order mode a i t t' p e r I long f c w q = record {
+tabled_more order mode a i t t' p e r I f c w q = record {
   kept = f;
-  inside = λ m h. dite (ℕ_discrete (m % 4096) i) (λ q. dite (dec_lt (m / 4096) 6) (λ b. hit m q b) (λ n. miss m (λ k l z. omega arith) (omega (arith, c.same)))) (λ n. miss m (λ k l z. n (omega arith)) (omega (arith, c.same)));
+  inside = λ m h. dite (ℕ_discrete (m % 4096) i) (λ q. dite (dec_lt (m / 4096) 6) (λ b. hit m q b) (λ n. miss m (λ k l z. omega arith) h)) (λ n. miss m (λ k l z. n (omega arith)) h);
   places = λ j k h l.
       let le : j ≤ i = omega arith in
       elim (eq-or-lt_of_le le) [
@@ -109,13 +109,13 @@ tabled_more order mode a i t t' p e r I long f c w q = record {
         let z : m ≡ m / 4096 * 4096 + i = omega arith in
         subst (λ (n : ℕ). n < a.len) (sym (ap (λ (x : ℕ). get_or t'.at x 0) z ∙ c.set (m / 4096) b ∙ ap (λ (x : Point). get_or x.at (m / 4096) 0) e)) (point_inside order mode a i (m / 4096) r)
 
-    miss : (m : ℕ) → ((k : ℕ) → k < 6 → m ≡ k * 4096 + i → ⊥) → m < length t.at → get_or t'.at m 0 < a.len
+    miss : (m : ℕ) → ((k : ℕ) → k < 6 → m ≡ k * 4096 + i → ⊥) → m < 24580 → get_or t'.at m 0 < a.len
     miss m n h = subst (λ (x : ℕ). x < a.len) (sym (c.rest m n)) (q.inside m h)
 
 -- ---- before the first
 pub table_start : (order : ℕ) (mode : BorderMode) (a : Axis) (t : Table) → t.at ≡ replicate 24580 0 → 1 ≤ a.len → Tabled order mode a t 0
 table_start order mode a t e l = record {
-  inside = λ m h. subst (λ (n : ℕ). n < a.len) (sym (ap (λ (at : List ℕ). get_or at m 0) e ∙ get_or-replicate 24580 m 0 0 (omega (arith, ap length e, length-replicate {A = ℕ} 24580 0)))) (omega arith);
+  inside = λ m h. subst (λ (n : ℕ). n < a.len) (sym (ap (λ (at : List ℕ). get_or at m 0) e ∙ get_or-replicate 24580 m 0 0 h)) (omega arith);
   kept = λ m h. absurd (not-suc-le-zero h);
   places = λ j k h. absurd (not-suc-le-zero h);
   weights = λ j k h. absurd (not-suc-le-zero h);

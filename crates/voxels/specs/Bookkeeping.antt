@@ -32,8 +32,8 @@ pub record InSource (s : Source) (x y : Point) : Type 0 where
   pub rows : Planes y.at (s.order + 1) s.row s.plane
 
 -- each place of the table names a place of the row
-abbrev pub Inside : List ℕ → ℕ → Type 0
-Inside at row = (m : ℕ) → m < length at → get_or at m 0 < row
+abbrev pub Inside : Table → ℕ → Type 0
+Inside t row = (m : ℕ) → m < table_size → get_or t.at m 0 < row
 
 -- ---- the voxels of a block are numbered 0 to 3; any other number stands for the last
 abbrev pub lane : ℕ → ℕ
@@ -54,7 +54,7 @@ Each P f = P f.a × (P f.b × (P f.c × P f.d))
 -- ---- the table
 -- the first i output indices have their columns and flags
 pub record Tabled (order : ℕ) (mode : BorderMode) (a : Axis) (t : Table) (i : ℕ) : Type 0 where
-  pub inside : Inside t.at a.len
+  pub inside : Inside t a.len
   pub kept : Filled (kept_at mode a) false t.kept i
   pub places : (j k : ℕ) → j < i → k < 6 → get_or t.at (k * longest + j) 0 ≡ get_or (point_at order mode a j).at k 0
   pub weights : (j k : ℕ) → j < i → k < 6 → get_or t.weight (k * longest + j) nan ≡ get_or (point_at order mode a j).weight k nan

@@ -1,5 +1,5 @@
 // The voxels or coefficients that sums read.
-ghost use Rattle.std.specs.Prelude.{◌≡◌, ◌+◌, ◌*◌, ◌<◌, ◌≤◌, length, take, drop};
+ghost use Rattle.std.specs.Prelude.{◌≡◌, ◌+◌, ◌*◌, ◌^◌, ◌<◌, ◌≤◌, length, take, drop};
 
 // Planes of `plane` places with rows of `row`, read at an order.
 #[derive(Clone, Copy)]
@@ -12,13 +12,19 @@ pub struct Source<'a> {
 }
 
 impl<'a> Source<'a> {
-    pub(crate) fn plane_at(&self, i: usize) -> &'a [f64]
+    pub fn plane_at(&self, i: usize) -> &'a [f64]
         requires { (0 < self.now.plane) × ((i + 1) * self.now.plane ≤ length self.now.numbers.now) }
         ensures places { result.now ≡ take self.now.plane (drop (i * self.now.plane) self.now.numbers.now) }
         ensures len { length result.now ≡ self.now.plane }
     {
-        let data = self.numbers;
-        let plane = self.plane;
-        &data[i * plane..(i + 1) * plane]
+        &self.numbers[i * self.plane..(i + 1) * self.plane]
+    }
+    // Where row i of a plane begins.
+    pub fn row_at(&self, i: usize) -> usize
+        requires { (i + 1) * self.now.row ≤ self.now.plane }
+        ensures start { result ≡ i * self.now.row }
+        ensures fits { result + self.now.row < 2 ^ 64 }
+    {
+        i * self.row
     }
 }

@@ -5,11 +5,9 @@ ghost use Rattle.std.specs.Float.{nan};
 ghost use Rattle.limits.specs.Limits.{longest};
 ghost use Rattle.voxels.specs.Sum.{term, sum_x, sum_y};
 ghost use Rattle.voxels.specs.Voxel.{tap_of};
-ghost use Rattle.voxels.specs.Bookkeeping.{column, InSource, Planes, Inside, Each, sum_of, lane, at_lane};
+ghost use Rattle.voxels.specs.Bookkeeping.{column, Each, sum_of, lane, at_lane};
 
-use crate::source::Source;
-use crate::table::Table;
-use axis::point::Point;
+use crate::row::Row;
 use limits::LONGEST;
 
 // A value for each of four voxels, by name: a generic struct holds no array of its parameter.
@@ -60,46 +58,35 @@ fn step(p: &[f64], w: f64, v: Four<f64>, at: Four<usize>, t: Four<f64>) -> Four<
     }
 }
 
-fn add_x(source: &Source, x: &Point, at: Four<usize>, v: Four<f64>, sum: Four<f64>) -> Four<f64>
-    requires places { Each (λ i. i < source.now.plane) at }
-    requires planes { Planes x.now.at (source.now.order + 1) source.now.plane (length source.now.numbers.now) }
-    ensures { (j : ℕ) → at_lane result j ≡ sum_x source.now.numbers.now source.now.plane (tap_of x.now) (at_lane at j) (at_lane v j) (at_lane sum j) (source.now.order + 1) }
+fn add_x(row: &Row, at: Four<usize>, v: Four<f64>, sum: Four<f64>) -> Four<f64>
+    requires { Each (λ i. i < row.now.source.plane) at }
+    ensures { (j : ℕ) → at_lane result j ≡ sum_x row.now.source.numbers.now row.now.source.plane (tap_of row.now.x.now) (at_lane at j) (at_lane v j) (at_lane sum j) (row.now.source.order + 1) }
 {
     let mut t = sum;
-    for k in 0..source.order + 1 {
-        t = step(source.plane_at(x.at[k]), x.weight[k], v, at, t);
+    for k in 0..row.source.order + 1 {
+        t = step(row.source.plane_at(row.x.at[k]), row.x.weight[k], v, at, t);
     }
     t
 }
 
-fn add_y(
-    source: &Source,
-    x: &Point,
-    y: &Point,
-    z: Four<usize>,
-    w: Four<f64>,
-    sum: Four<f64>,
-) -> Four<f64>
-    requires places { Each (λ i. i < source.now.row) z }
-    requires in_source { InSource source.now x.now y.now }
-    ensures { (j : ℕ) → at_lane result j ≡ sum_y source.now.numbers.now source.now.plane source.now.row (source.now.order + 1) (tap_of x.now) (tap_of y.now) (at_lane z j) (at_lane w j) (at_lane sum j) (source.now.order + 1) }
+fn add_y(row: &Row, z: Four<usize>, w: Four<f64>, sum: Four<f64>) -> Four<f64>
+    requires { Each (λ i. i < row.now.source.row) z }
+    ensures { (j : ℕ) → at_lane result j ≡ sum_y row.now.source.numbers.now row.now.source.plane row.now.source.row (row.now.source.order + 1) (tap_of row.now.x.now) (tap_of row.now.y.now) (at_lane z j) (at_lane w j) (at_lane sum j) (row.now.source.order + 1) }
 {
     let mut t = sum;
-    for k in 0..source.order + 1 {
-        let start = y.at[k] * source.row;
-        let v = y.weight[k];
-        t = add_x(source, x, z.map(|place| start + place), w.map(|w| v * w), t);
+    for k in 0..row.source.order + 1 {
+        let start = row.source.row_at(row.y.at[k]);
+        let v = row.y.weight[k];
+        t = add_x(row, z.map(|place| start + place), w.map(|w| v * w), t);
     }
     t
 }
 
 // The sums of the voxels at places o to o + 3 of a row. Each place of the table names one of the row,
 // so a sum whose place is dropped, or past the end of the row, is of no use but does no harm.
-pub(crate) fn sum_four(source: &Source, table: &Table, x: &Point, y: &Point, o: usize) -> Four<f64>
-    requires o_lt_longest { o < longest }
-    requires in_source { InSource source.now x.now y.now }
-    requires inside { Inside table.now.at source.now.row }
-    ensures { (j : ℕ) → at_lane result j ≡ sum_of source.now (tap_of x.now) (tap_of y.now) (column table.now (o + lane j)) }
+pub(crate) fn sum_four(row: &Row, o: usize) -> Four<f64>
+    requires { o < longest }
+    ensures { (j : ℕ) → at_lane result j ≡ sum_of row.now.source (tap_of row.now.x.now) (tap_of row.now.y.now) (column row.now.table.now (o + lane j)) }
 {
     let mut t = Four {
         a: 0.0,
@@ -107,16 +94,11 @@ pub(crate) fn sum_four(source: &Source, table: &Table, x: &Point, y: &Point, o: 
         c: 0.0,
         d: 0.0,
     };
-    for k in 0..source.order + 1 {
+    for k in 0..row.source.order + 1 {
         let i = k * LONGEST + o;
-        t = add_y(
-            source,
-            x,
-            y,
-            four_at(&table.at, i),
-            four_at(&table.weight, i),
-            t,
-        );
+        let places = four_at(&row.table.at, i);
+        let weights = four_at(&row.table.weight, i);
+        t = add_y(row, places, weights, t);
     }
     t
 }

@@ -6,8 +6,9 @@ ghost use Rattle.limits.specs.Limits.{longest, longest_padded};
 ghost use Rattle.lists.specs.Tabulate.{tabulate};
 ghost use Rattle.axis.specs.Bookkeeping.{Reaches};
 ghost use Rattle.voxels.specs.Voxel.{tap_of, values};
-ghost use Rattle.voxels.specs.Bookkeeping.{column, InSource, Planes, Inside, computed_of, sum_of, with_voxel, with_four, row_value, plane_value, volume_value};
+ghost use Rattle.voxels.specs.Bookkeeping.{column, Planes, Inside, computed_of, sum_of, with_voxel, with_four, row_value, plane_value, volume_value};
 
+use crate::row::Row;
 use crate::source::Source;
 use crate::sum::{Four, sum_four};
 use crate::table::{TABLE, Table};
@@ -17,6 +18,7 @@ use border::BorderMode;
 use coverage::cover::drop_value;
 use limits::LONGEST;
 
+// Both are worked out, then one is taken: no branch in the loops.
 fn chosen(kept: bool, value: f64, dropped: f64) -> f64
     ensures { result ≡ cond kept value dropped }
 {
@@ -26,7 +28,7 @@ fn chosen(kept: bool, value: f64, dropped: f64) -> f64
 // Order 0: the voxels of one row of a plane, the row that begins at `start`.
 fn copy_row(out: &mut [f64], table: &Table, plane: &[f64], start: usize, dropped: f64)
     requires out_len { length out.old ≤ longest }
-    requires by_index { (k : ℕ) → k < length table.now.at → start + get_or table.now.at k 0 < length plane.now }
+    requires by_index { (k : ℕ) → k < longest → start + get_or table.now.at k 0 < length plane.now }
     ensures { out.new ≡ tabulate (length out.old) (λ k. cond (get_or table.now.kept k false) (get_or plane.now (start + get_or table.now.at k 0) nan) dropped) }
 {
     for (k, value) in out.iter_mut().enumerate() {
@@ -56,60 +58,38 @@ fn put_four(out: &mut [f64], kept: &[bool], o: usize, t: Four<f64>, dropped: f64
 }
 
 // Orders above 0, in blocks of four voxels.
-fn sum_row(out: &mut [f64], source: &Source, table: &Table, x: &Point, y: &Point, dropped: f64)
-    requires out_len { length out.old ≤ longest }
-    requires in_source { InSource source.now x.now y.now }
-    requires inside { Inside table.now.at source.now.row }
-    ensures { out.new ≡ tabulate (length out.old) (λ k. cond (get_or table.now.kept k false) (sum_of source.now (tap_of x.now) (tap_of y.now) (column table.now k)) dropped) }
+fn sum_row(out: &mut [f64], row: &Row, dropped: f64)
+    requires { length out.old ≤ longest }
+    ensures { out.new ≡ tabulate (length out.old) (λ k. cond (get_or row.now.table.now.kept k false) (sum_of row.now.source (tap_of row.now.x.now) (tap_of row.now.y.now) (column row.now.table.now k)) dropped) }
 {
     for o in (0..out.len()).step_by(4) {
-        put_four(
-            out,
-            &table.kept,
-            o,
-            sum_four(source, table, x, y, o),
-            dropped,
-        );
+        put_four(out, &row.table.kept, o, sum_four(row, o), dropped);
     }
 }
 
 // A row that axes 0 and 1 keep.
-fn kept_row(out: &mut [f64], source: &Source, table: &Table, x: &Point, y: &Point, dropped: f64)
-    requires out_len { length out.old ≤ longest }
-    requires in_source { InSource source.now x.now y.now }
-    requires inside { Inside table.now.at source.now.row }
-    ensures { out.new ≡ tabulate (length out.old) (λ k. cond (get_or table.now.kept k false) (computed_of source.now (tap_of x.now) (tap_of y.now) (column table.now k)) dropped) }
+fn kept_row(out: &mut [f64], row: &Row, dropped: f64)
+    requires { length out.old ≤ longest }
+    ensures { out.new ≡ tabulate (length out.old) (λ k. cond (get_or row.now.table.now.kept k false) (computed_of row.now.source (tap_of row.now.x.now) (tap_of row.now.y.now) (column row.now.table.now k)) dropped) }
 {
+    let source = &row.source;
     if source.order == 0 {
-        copy_row(
-            out,
-            table,
-            source.plane_at(x.at[0]),
-            y.at[0] * source.row,
-            dropped,
-        );
+        let plane = source.plane_at(row.x.at[0]);
+        let start = source.row_at(row.y.at[0]);
+        copy_row(out, row.table, plane, start, dropped);
     } else {
-        sum_row(out, source, table, x, y, dropped);
+        sum_row(out, row, dropped);
     }
 }
 
 // A row that axes 0 and 1 keep, or not.
-fn value_row(
-    out: &mut [f64],
-    source: &Source,
-    table: &Table,
-    mode: BorderMode,
-    x: &Point,
-    y: &Point,
-)
-    requires out_len { (length out.old ≡ table.now.width) × (table.now.width ≤ longest) }
-    requires in_source { InSource source.now x.now y.now }
-    requires inside { Inside table.now.at source.now.row }
-    ensures { out.new ≡ tabulate table.now.width (row_value mode source.now table.now x.now y.now) }
+fn value_row(out: &mut [f64], row: &Row, mode: BorderMode)
+    requires { (length out.old ≡ row.now.table.now.width) × (row.now.table.now.width ≤ longest) }
+    ensures { out.new ≡ tabulate row.now.table.now.width (row_value mode row.now.source row.now.table.now row.now.x.now row.now.y.now) }
 {
     let dropped = drop_value(mode);
-    if x.mark.is_kept() && y.mark.is_kept() {
-        kept_row(out, source, table, x, y, dropped);
+    if row.x.mark.is_kept() && row.y.mark.is_kept() {
+        kept_row(out, row, dropped);
     } else {
         out.fill(dropped);
     }
@@ -127,7 +107,7 @@ fn value_plane(
     requires out_len { (length out.old ≡ ya.out * table.now.width) × (table.now.width ≤ longest) }
     requires planes { Planes x.now.at (source.now.order + 1) source.now.plane (length source.now.numbers.now) }
     requires plane_value { source.now.plane ≡ ya.len * source.now.row }
-    requires inside { Inside table.now.at source.now.row }
+    requires inside { Inside table.now source.now.row }
     requires reaches { Reaches source.now.order ya }
     ensures { out.new ≡ tabulate (ya.out * table.now.width) (plane_value mode source.now table.now x.now ya) }
 {
@@ -135,14 +115,13 @@ fn value_plane(
     let width = table.width;
     for j in 0..ya.out {
         let y = point_at(ya, j, source.order, mode);
-        value_row(
-            &mut out[j * width..(j + 1) * width],
-            &source,
+        let row = Row {
+            source,
             table,
-            mode,
             x,
-            &y,
-        );
+            y: &y,
+        };
+        value_row(&mut out[j * width..(j + 1) * width], &row, mode);
     }
 }
 
@@ -158,7 +137,7 @@ fn value_planes(
     requires out_len { (length out.old ≡ xa.out * (ya.out * table.now.width)) × (table.now.width ≤ longest) }
     requires data_len { length source.now.numbers.now ≡ xa.len * source.now.plane }
     requires plane_value { source.now.plane ≡ ya.len * source.now.row }
-    requires inside { Inside table.now.at source.now.row }
+    requires inside { Inside table.now source.now.row }
     requires reaches { Reaches source.now.order xa × Reaches source.now.order ya }
     ensures { out.new ≡ tabulate (xa.out * (ya.out * table.now.width)) (volume_value mode source.now table.now xa ya) }
 {
@@ -176,7 +155,7 @@ fn value_planes(
     }
 }
 
-// The whole volume, from the voxels or coefficients of the source; `Axes` is declared above this crate.
+// The whole volume. The axes stand one by one, as in the definition values.
 pub fn sweep(
     out: &mut [f64],
     data: &[f64],

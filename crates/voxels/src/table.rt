@@ -10,11 +10,12 @@ use axis::point::point_at;
 use border::BorderMode;
 use limits::LONGEST;
 
-// A column of LONGEST places for each of six neighbours, and room for the last block of the last one.
+// LONGEST places for each of six neighbours, and room for the last block of the last one.
 pub(crate) const TABLE: usize = 6 * LONGEST + 4;
 
-// Those of neighbour k stand from place k * LONGEST on, `width` of them: numbers apart from places, so
-// that four that follow each other are read at once.
+// The neighbours of every output index with their weights; those of neighbour k stand from place
+// k * LONGEST on, `width` of them. Two arrays, so that four numbers or places that follow each other
+// are read at once.
 #[derive(Drop)]
 pub struct Table {
     pub width: usize,

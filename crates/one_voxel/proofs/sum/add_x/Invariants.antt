@@ -5,4 +5,4 @@ use Rattle.voxels.specs.Voxel.{tap_of}
 use Rattle.one_voxel.proofs.sum.add_x.Given as goal
 
 abbrev pub invariant-loop-k : goal.invariant-loop-k
-invariant-loop-k l = l.t ≡ sum_x l.source.numbers.now l.source.plane (tap_of l.x) l.place l.v l.sum l.k
+invariant-loop-k l = l.t ≡ sum_x l.r.source.numbers.now l.r.source.plane (tap_of l.r.x.now) l.place l.v l.sum l.k

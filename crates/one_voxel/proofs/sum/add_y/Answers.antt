@@ -9,4 +9,4 @@ unfolding sum_y
 loop-k-init c = refl
 
 pub loop-k-preserved : goal.loop-k-preserved
-loop-k-preserved c = turn_y _ _ _ _ _ _ _ _ _ _ c.loop-k.invariant refl refl c.add_x-t.ensures
+loop-k-preserved c = turn_y _ _ _ _ _ _ _ _ _ _ c.loop-k.invariant (rw c.row_at-start.ensures.start refl) refl c.add_x-t.ensures

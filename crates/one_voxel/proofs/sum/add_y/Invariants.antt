@@ -6,4 +6,4 @@ use Rattle.voxels.specs.Voxel.{tap_of}
 use Rattle.one_voxel.proofs.sum.add_y.Given as goal
 
 abbrev pub invariant-loop-k : goal.invariant-loop-k
-invariant-loop-k l = l.t ≡ sum_y l.source.numbers.now l.source.plane l.source.row (l.source.order + 1) (tap_of l.x) (tap_of l.y) l.z l.w l.sum l.k
+invariant-loop-k l = l.t ≡ sum_y l.r.source.numbers.now l.r.source.plane l.r.source.row (l.r.source.order + 1) (tap_of l.r.x.now) (tap_of l.r.y.now) l.z l.w l.sum l.k

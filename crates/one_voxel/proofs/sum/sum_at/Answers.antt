@@ -17,5 +17,5 @@ loop-k-preserved c = turn_z _ _ _ _ _ _ _ _ c.loop-k.invariant refl refl c.add_y
 pub returns : goal.returns
 unfolding sum_at
 returns c =
-    let e : c.loop-k.k ≡ c.args.source.now.order + 1 = omega arith in
+    let e : c.loop-k.k ≡ c.args.r.now.source.order + 1 = omega arith in
     rw e at c.loop-k.invariant

@@ -7,8 +7,8 @@ use Rattle.voxels.proofs.Sweeping.{point_planes}
 use Rattle.one_voxel.proofs.Voxels.{value_kept, value_dropped}
 use Rattle.one_voxel.proofs.value.value_at.Goals as goal
 
-pub computed_at-requires : goal.computed_at-requires
-computed_at-requires c =
+pub invariant_of-r : goal.invariant_of-r
+invariant_of-r c =
     let a = c.args in
     let reached = c.requires.reached in record {
       in_source = record {

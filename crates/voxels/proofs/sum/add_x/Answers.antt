@@ -11,7 +11,7 @@ unfolding sum_x
 loop-k-init c = λ j. refl
 
 pub plane_at-requires : goal.plane_at-requires
-plane_at-requires c = (omega arith, c.requires.planes c.loop-k.k (omega arith))
+plane_at-requires c = (omega arith, c.args.row.now.in_source.planes c.loop-k.k (omega arith))
 
 pub loop-k-preserved : goal.loop-k-preserved
-loop-k-preserved c = λ j. turn_x_lent _ _ _ _ _ _ _ (lane_of (λ (i : ℕ). i < c.args.source.now.plane) c.args.at c.requires.places j) (c.loop-k.invariant j) (rw c.plane_at.ensures.places at (c.step-t.ensures j))
+loop-k-preserved c = λ j. turn_x_lent _ _ _ _ _ _ _ (lane_of (λ (i : ℕ). i < c.args.row.now.source.plane) c.args.at c.requires j) (c.loop-k.invariant j) (rw c.plane_at.ensures.places at (c.step-t.ensures j))

@@ -7,4 +7,4 @@ use Rattle.voxels.specs.Bookkeeping.{at_lane}
 use Rattle.voxels.proofs.sum.add_x.Given as goal
 
 abbrev pub invariant-loop-k : goal.invariant-loop-k
-invariant-loop-k l = (j : ℕ) → at_lane l.t j ≡ sum_x l.source.numbers.now l.source.plane (tap_of l.x) (at_lane l.at j) (at_lane l.v j) (at_lane l.initial.t j) l.k
+invariant-loop-k l = (j : ℕ) → at_lane l.t j ≡ sum_x l.row.source.numbers.now l.row.source.plane (tap_of l.row.x.now) (at_lane l.at j) (at_lane l.v j) (at_lane l.initial.t j) l.k

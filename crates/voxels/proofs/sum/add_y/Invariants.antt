@@ -7,4 +7,4 @@ use Rattle.voxels.specs.Bookkeeping.{at_lane}
 use Rattle.voxels.proofs.sum.add_y.Given as goal
 
 abbrev pub invariant-loop-k : goal.invariant-loop-k
-invariant-loop-k l = (j : ℕ) → at_lane l.t j ≡ sum_y l.source.numbers.now l.source.plane l.source.row (l.source.order + 1) (tap_of l.x) (tap_of l.y) (at_lane l.z j) (at_lane l.w j) (at_lane l.initial.t j) l.k
+invariant-loop-k l = (j : ℕ) → at_lane l.t j ≡ sum_y l.row.source.numbers.now l.row.source.plane l.row.source.row (l.row.source.order + 1) (tap_of l.row.x.now) (tap_of l.row.y.now) (at_lane l.z j) (at_lane l.w j) (at_lane l.initial.t j) l.k

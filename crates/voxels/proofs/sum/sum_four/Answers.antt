@@ -12,17 +12,17 @@ pub loop-k-init : goal.loop-k-init
 unfolding sum_z of_bits of_int
 loop-k-init c = in_each _ refl refl refl (λ j. refl)
 
-pub add_y-t-requires-clause-places : goal.add_y-t-requires-clause-places
-add_y-t-requires-clause-places c =
-    each_of (λ (i : ℕ). i < c.args.source.now.row) c.four_at.result (λ j. rw (c.four_at.ensures j 0) (c.requires.inside _ (omega (arith, lane_below j))))
+pub add_y-t-requires : goal.add_y-t-requires
+add_y-t-requires c =
+    each_of (λ (i : ℕ). i < c.args.row.now.source.row) c.four_at-places.result (λ j. rw (c.four_at-places.ensures j 0) (c.args.row.now.inside _ (omega (arith, lane_below j))))
 
 pub loop-k-preserved : goal.loop-k-preserved
 loop-k-preserved c =
     let a = c.args in
-    λ j. turn_z_tabled _ _ _ _ _ _ a.table.now a.o (lane j) c.loop-k.k (c.loop-k.invariant j) (c.four_at.ensures j 0) (c.four_at-in-loop-k.ensures j nan) (c.add_y-t.ensures j)
+    λ j. turn_z_tabled _ _ _ _ _ _ a.row.now.table.now a.o (lane j) c.loop-k.k (c.loop-k.invariant j) (c.four_at-places.ensures j 0) (c.four_at-weights.ensures j nan) (c.add_y-t.ensures j)
 
 pub returns : goal.returns
 unfolding sum_at
 returns c =
-    let e : c.loop-k.k ≡ c.args.source.now.order + 1 = omega arith in
+    let e : c.loop-k.k ≡ c.args.row.now.source.order + 1 = omega arith in
     rw e at c.loop-k.invariant

@@ -7,4 +7,4 @@ use Rattle.voxels.specs.Bookkeeping.{column, lane, at_lane}
 use Rattle.voxels.proofs.sum.sum_four.Given as goal
 
 abbrev pub invariant-loop-k : goal.invariant-loop-k
-invariant-loop-k l = (j : ℕ) → at_lane l.t j ≡ sum_z l.source.numbers.now l.source.plane l.source.row (l.source.order + 1) (tap_of l.x) (tap_of l.y) (column l.table (l.o + lane j)) l.k
+invariant-loop-k l = (j : ℕ) → at_lane l.t j ≡ sum_z l.row.source.numbers.now l.row.source.plane l.row.source.row (l.row.source.order + 1) (tap_of l.row.x.now) (tap_of l.row.y.now) (column l.row.table.now (l.o + lane j)) l.k

@@ -16,11 +16,11 @@ use Rattle.voxels.proofs.sweep.sum_row.Goals as goal
 module _ (s : Start) where
   abbrev sum : ℕ → Float
   sum m =
-      let a = s.args in
-      sum_of a.source.now (tap_of a.x.now) (tap_of a.y.now) (column a.table.now m)
+      let row = s.args.row.now in
+      sum_of row.source (tap_of row.x.now) (tap_of row.y.now) (column row.table.now m)
 
   abbrev value : ℕ → Float
-  value m = cond (get_or s.args.table.now.kept m false) (sum m) s.args.dropped
+  value m = cond (get_or s.args.row.now.table.now.kept m false) (sum m) s.args.dropped
 
 pub loop-o-init : goal.loop-o-init
 loop-o-init c = λ m h _. absurd (not-suc-le-zero h)
@@ -28,7 +28,7 @@ loop-o-init c = λ m h _. absurd (not-suc-le-zero h)
 pub loop-o-preserved : goal.loop-o-preserved
 loop-o-preserved c =
     let s = (goal.at.loop-o-preserved c).Start in
-    put_block (value s) c.args.table.now.kept c.args.dropped (sum s) c.loop-o.out c.loop-o.o c.sum_four.result (λ k. refl) c.sum_four.ensures c.loop-o.invariant c.put_four.ensures
+    put_block (value s) c.args.row.now.table.now.kept c.args.dropped (sum s) c.loop-o.out c.loop-o.o c.sum_four.result (λ k. refl) c.sum_four.ensures c.loop-o.invariant c.put_four.ensures
 
 pub returns : goal.returns
 returns c = is_tabulate _ nan c.loop-o.out _ (omega arith) (λ m h. c.loop-o.invariant m (omega arith) (omega arith))
@@ -36,5 +36,5 @@ returns c = is_tabulate _ nan c.loop-o.out _ (omega arith) (λ m h. c.loop-o.inv
 pub returns-2 : goal.returns-2
 returns-2 c =
     let s = (goal.at.returns-2 c).Start in
-    let block = put_block (value s) c.args.table.now.kept c.args.dropped (sum s) c.loop-o.out c.loop-o.o c.sum_four.result (λ k. refl) c.sum_four.ensures c.loop-o.invariant c.put_four.ensures in
+    let block = put_block (value s) c.args.row.now.table.now.kept c.args.dropped (sum s) c.loop-o.out c.loop-o.o c.sum_four.result (λ k. refl) c.sum_four.ensures c.loop-o.invariant c.put_four.ensures in
     is_tabulate _ nan c.put_four.new.out _ (omega arith) (λ m h. block m (omega arith) (omega arith))

@@ -9,4 +9,4 @@ use Rattle.voxels.proofs.Sweeping.{Upto}
 use Rattle.voxels.proofs.sweep.sum_row.Given as goal
 
 abbrev pub invariant-loop-o : goal.invariant-loop-o
-invariant-loop-o l = Upto (λ (m : ℕ). cond (get_or l.table.kept m false) (sum_of l.source (tap_of l.x) (tap_of l.y) (column l.table m)) l.dropped) nan l.out l.o
+invariant-loop-o l = Upto (λ (m : ℕ). cond (get_or l.row.table.now.kept m false) (sum_of l.row.source (tap_of l.row.x.now) (tap_of l.row.y.now) (column l.row.table.now m)) l.dropped) nan l.out l.o

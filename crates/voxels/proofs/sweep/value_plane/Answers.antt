@@ -7,8 +7,8 @@ use Rattle.lists.proofs.Stretches.{next_written, all_written}
 use Rattle.voxels.proofs.Sweeping.{point_planes, row_filled}
 use Rattle.voxels.proofs.sweep.value_plane.Goals as goal
 
-pub value_row-requires-clause-in_source : goal.value_row-requires-clause-in_source
-value_row-requires-clause-in_source c =
+pub invariant_of-row-clause-in_source : goal.invariant_of-row-clause-in_source
+invariant_of-row-clause-in_source c =
     let a = c.args in
     let j = c.loop-j.j in
     record { planes = c.requires.planes; rows = point_planes a.source.now.order a.mode a.ya j _ _ _ _ (c.requires.reaches.each j (omega arith)) (ap (λ (t : Point). t.at) c.point_at-y.ensures) c.requires.plane_value }

@@ -15,4 +15,4 @@ loop-i-preserved c =
     let l = c.loop-i in
     let point = c.point_at-point in
     let flags = put (kept_at a.mode a.a) false l.self.kept l.i c.is_kept.result (c.is_kept.ensures ∙ marked_kept a.order a.mode a.a l.i point.ensures) (omega arith) l.invariant.1.kept in
-    (l.invariant.0, tabled_more a.order a.mode a.a l.i l.self _ point.result point.ensures (c.requires.reaches.each l.i (omega arith)) (omega (arith, c.requires.reaches.short)) (omega arith) flags (c.put_column.ensures 0) (c.put_column-in-loop-i.ensures nan) l.invariant.1)
+    (l.invariant.0, tabled_more a.order a.mode a.a l.i l.self _ point.result point.ensures (c.requires.reaches.each l.i (omega arith)) (omega (arith, c.requires.reaches.short)) flags (c.put_column.ensures 0) (c.put_column-in-loop-i.ensures nan) l.invariant.1)
