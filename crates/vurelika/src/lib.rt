@@ -1,5 +1,6 @@
 // The door for C: the four entries, one voxel and one axis of two of them, the files of NumPy, and the lengths of what
 // a caller lends. A slice is a pointer, then a length. No caller has checked anything.
+// The doors of a pair differ in the entry alone. One function over the entry would be longer than its two bodies.
 #![tactic(auto)]
 
 ghost use Rattle.std.specs.Prelude.{◌≡◌, [], ◌∷◌};
