@@ -1,7 +1,7 @@
 // The pad of Nearest and Replicate: twelve edge copies on every side of every axis but a single slice.
 #![tactic(auto)]
 
-ghost use Rattle.std.specs.Prelude.{◌≡◌, ◌+◌, ◌*◌, ◌≤◌, ◌<◌, length};
+ghost use Rattle.std.specs.Prelude.{◌≡◌, ◌+◌, ◌*◌, ◌≤◌, length};
 ghost use Rattle.limits.specs.Limits.{longest_padded, wide_of};
 ghost use Rattle.prefilter.specs.Volume.{count_of};
 ghost use Rattle.prefilter.specs.Bookkeeping.{Sized};
