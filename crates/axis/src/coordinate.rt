@@ -51,7 +51,7 @@ pub fn pad_of(mode: BorderMode, prefilter: bool, order: usize, length: usize) ->
     }
 }
 
-// Not one with zoom_axis: two maps, whose ratio, shift and lengths all differ.
+// Not one with zoom_axis: two maps, whose ratio, shift and lengths all differ; so each bounds the numbers it is given.
 pub fn shift_axis(length: usize, shift: f64, pad: usize) -> Axis
     requires { (length ≤ longest) × (pad ≤ 12) }
     ensures { result ≡ shift_axis length shift pad }

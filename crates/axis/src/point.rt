@@ -1,4 +1,5 @@
-// The record of an output index: weights and neighbours, with its mark.
+// The record of an output index: weights and neighbours, with its mark. An axis, an index, an order and a mode stand
+// side by side, as in the definitions; an order is a number here and above, and each function bounds its own.
 ghost use Rattle.std.specs.Prelude.{◌≡◌, ℕ, ◌<◌, ◌≤◌};
 ghost use Rattle.axis.specs.Neighbours.{first_neighbour, outside, spline_mode, neighbour, neighbour_index};
 ghost use Rattle.axis.specs.Bookkeeping.{Indexes};

@@ -1,4 +1,5 @@
-// The coverage of a volume: the code of every voxel. No voxel is read here.
+// The coverage of a volume: the code of every voxel. No voxel is read here. Axis, order and mode stand side by side, as
+// in the definitions.
 ghost use Rattle.std.specs.Prelude.{◌≡◌, ◌*◌, ◌≤◌, length, get_or};
 ghost use Rattle.limits.specs.Limits.{longest};
 ghost use Rattle.lists.specs.Tabulate.{tabulate};

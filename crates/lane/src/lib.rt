@@ -1,5 +1,6 @@
 // The passes over lines, whose first n places hold a lane each. The recursive passes run over all lines at once: their
-// chains of operations do not wait for each other.
+// chains of operations do not wait for each other. How long a lane is stands with each function, since a slice has no
+// type that bounds it.
 #![tactic(auto)]
 
 ghost use Rattle.std.specs.Prelude.{◌≡◌, ◌≤◌, ◌<◌, ◌-◌, ◌+◌, map, length, take};

@@ -12,6 +12,7 @@ pub struct Pole {
     pub cutoff: usize,
 }
 
+// The definitions have poles of a number that is an order, 2 to 5.
 pub fn get_filter_poles(order: usize) -> &'static [Pole]
     requires { (2 ≤ order) × (order ≤ 5) }
     ensures { result.now ≡ poles_of order }

@@ -1,4 +1,5 @@
-// The spline prefilter of a volume, in place: along one axis, and along the three in turn.
+// The spline prefilter of a volume, in place: along one axis, and along the three in turn. Lengths, axis and order are
+// numbers, as the definitions of these names take them, so each function bounds its own.
 #![tactic(auto)]
 
 ghost use Rattle.std.specs.Prelude.{◌≡◌, false, ◌*◌, ◌≤◌, length};

@@ -1,4 +1,5 @@
-// The lengths, counts and axes of a request.
+// The lengths, counts and axes of a request. A request is a record that public calls take with any numbers, so each
+// function asks of it what the checks have shown.
 ghost use Rattle.std.specs.Prelude.{◌≡◌, ◌<◌};
 ghost use Rattle.prefilter.specs.Volume.{count_of};
 ghost use Rattle.request.specs.Sizes.{filters, padding, source_length, source_dims, needed, zoom_dims, shift_axes, zoom_axes};
