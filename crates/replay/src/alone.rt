@@ -139,11 +139,7 @@ impl<'a> Done<'a> {
 }
 
 // The voxels of a call that succeeds, and how many these are.
-fn ask_call(
-    call: Call,
-    r: &mut Replay,
-    voxel: Voxel,
-) -> Option<usize>
+fn ask_call(call: Call, r: &mut Replay, voxel: Voxel) -> Option<usize>
     requires { Voxel.IsAlwaysCallable voxel }
 {
     if !call.is_call() {
@@ -166,12 +162,7 @@ fn ask_call(
 }
 
 // Writes the line of one entry.
-pub fn alone_line(
-    rt: &impl Print,
-    file: Words,
-    entry: Entry,
-    voxel: Voxel,
-) -> io::Result<()>
+pub fn alone_line(rt: &impl Print, file: Words, entry: Entry, voxel: Voxel) -> io::Result<()>
     requires { Voxel.IsAlwaysCallable voxel }
 {
     let mut r = Replay::new(file);
