@@ -1,5 +1,6 @@
-// The door for C: the four entries, one voxel of two of them, the files of NumPy, and the lengths of what a caller lends. A slice is a pointer, then a length.
-// No caller has checked anything.
+// The door for C: the four entries, one voxel and one axis of two of them, the files of NumPy, and the lengths of what
+// a caller lends. A slice is a pointer, then a length. No caller has checked anything.
+// The doors of a pair differ in the entry alone. One function over the entry would be longer than its two bodies.
 #![tactic(auto)]
 
 ghost use Rattle.std.specs.Prelude.{◌≡◌, [], ◌∷◌};
@@ -11,7 +12,7 @@ ghost use Rattle.vurelika.specs.Door.{door_of, door_by, filter_door_of, filter_d
 
 use axis::coordinate::output_length;
 use numbers::reports::{PLACES, clear, report};
-use numbers::requests::{is_mode, mode_in, plain_request_in, plain_request_of, request_in};
+use numbers::requests::{mode_in, plain_request_in, request_in};
 use one_voxel::point::{shift_point, zoom_point};
 use one_voxel::{shift_voxel, zoom_voxel};
 use refusal::number_in;
@@ -289,28 +290,25 @@ pub extern "C" fn vurelika_npy_write(
     number_in(npy::write([d0, d1, d2], volume, bytes))
 }
 
-// Zoom's output length; 0 where refusal 3, 4, 12 or 5 would answer. A return for each: what it lets pass is asked for below.
+// Zoom's output length; 0 where refusal 3, 4, 12 or 5 would answer.
+#[tactic(auto, unfolding(crate::specs::Door::zoom_length))]
 #[unsafe(no_mangle)]
 pub extern "C" fn vurelika_zoom_length(length: usize, factor: f64) -> usize
     ensures { result ≡ zoom_length length factor }
 {
-    if bad_length(length) {
-        return 0;
-    }
-    if bad_zoom(factor) {
+    if bad_length(length) || bad_zoom(factor) {
         return 0;
     }
     let n = output_length(length, factor);
-    if zooms_slice(length, n) {
-        return 0;
+    if zooms_slice(length, n) || bad_output(length, n) {
+        0
+    } else {
+        n
     }
-    if bad_output(length, n) {
-        return 0;
-    }
-    n
 }
 
 // How many places of work a call needs; 0 where no call is answered, whatever the work.
+#[tactic(auto, unfolding(crate::specs::Door::work_count))]
 #[unsafe(no_mangle)]
 pub extern "C" fn vurelika_work_count(
     d0: usize,
@@ -322,14 +320,8 @@ pub extern "C" fn vurelika_work_count(
 ) -> usize
     ensures { result ≡ work_count d0 d1 d2 order prefilter mode }
 {
-    if !is_mode(mode) {
-        return 0;
+    match plain_request_in(d0, d1, d2, order, prefilter, mode, 0.0) {
+        Some(r) if order <= 5 && !bad_lengths(r.dims) => needed(r),
+        _ => 0,
     }
-    if order > 5 {
-        return 0;
-    }
-    if bad_lengths([d0, d1, d2]) {
-        return 0;
-    }
-    needed(plain_request_of(d0, d1, d2, order, prefilter, mode, 0.0))
 }
