@@ -44,11 +44,14 @@ pub extern "C" fn vurelika_shift(
     ensures { door_of result output.new coverage.new work.new counts.new ≡ door_by shift_call mode (request_of d0 d1 d2 f0 f1 f2 order prefilter mode fill) input.now output.old coverage.old work.old counts.old }
 {
     match request_in(d0, d1, d2, f0, f1, f2, order, prefilter, mode, fill) {
-        Some(r) if counts.len() == PLACES => {
-            report(counts, shift(r, input, output, coverage, work))
+        Some(r) => {
+            if counts.len() == PLACES {
+                report(counts, shift(r, input, output, coverage, work))
+            } else {
+                // no request has an empty output: the entry refuses
+                number_in(shift(r, input, &mut output[0..0], coverage, work))
+            }
         }
-        // no request has an empty output: the entry refuses
-        Some(r) => number_in(shift(r, input, &mut output[0..0], coverage, work)),
         None => {
             clear(counts);
             UNKNOWN_MODE
@@ -77,11 +80,14 @@ pub extern "C" fn vurelika_zoom(
     ensures { door_of result output.new coverage.new work.new counts.new ≡ door_by zoom_call mode (request_of d0 d1 d2 f0 f1 f2 order prefilter mode fill) input.now output.old coverage.old work.old counts.old }
 {
     match request_in(d0, d1, d2, f0, f1, f2, order, prefilter, mode, fill) {
-        Some(r) if counts.len() == PLACES => {
-            report(counts, zoom(r, input, output, coverage, work))
+        Some(r) => {
+            if counts.len() == PLACES {
+                report(counts, zoom(r, input, output, coverage, work))
+            } else {
+                // no request has an empty output: the entry refuses
+                number_in(zoom(r, input, &mut output[0..0], coverage, work))
+            }
         }
-        // no request has an empty output: the entry refuses
-        Some(r) => number_in(zoom(r, input, &mut output[0..0], coverage, work)),
         None => {
             clear(counts);
             UNKNOWN_MODE

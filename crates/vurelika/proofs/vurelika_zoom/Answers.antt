@@ -5,15 +5,15 @@ use Rattle.vurelika.proofs.Empty.{empty_refused_zoom}
 use Rattle.vurelika.proofs.Doors.{asked_for, unnumbered, answers, refuses, unknown}
 use Rattle.vurelika.proofs.vurelika_zoom.Goals as goal
 
-pub returns-in-Some : goal.returns-in-Some
-returns-in-Some c =
+pub returns-then-counts-eq-PLACES : goal.returns-then-counts-eq-PLACES
+returns-then-counts-eq-PLACES c =
     let a = c.args in
     answers zoom_call a.mode (request_of a.d0 a.d1 a.d2 a.f0 a.f1 a.f2 a.order a.prefilter a.mode a.fill) a.input.now a.output.now a.coverage.now a.work.now a.counts.now (asked_for _ c.in-Some.ensures).0 c.if-counts-eq-PLACES.true (asked_for _ c.in-Some.ensures).1 c.zoom.ensures c.report.ensures.0 c.report.ensures.1
 
-pub returns-in-Some-2 : goal.returns-in-Some-2
-returns-in-Some-2 c =
+pub returns-else-counts-eq-PLACES : goal.returns-else-counts-eq-PLACES
+returns-else-counts-eq-PLACES c =
     let a = c.args in
-    refuses zoom_call a.mode (request_of a.d0 a.d1 a.d2 a.f0 a.f1 a.f2 a.order a.prefilter a.mode a.fill) a.input.now a.output.now a.coverage.now a.work.now a.counts.now empty_refused_zoom (asked_for _ c.in-Some.ensures).0 c.if-counts-eq-PLACES.false (asked_for _ c.in-Some.ensures).1 c.zoom-in-Some-2.ensures c.number_in.ensures
+    refuses zoom_call a.mode (request_of a.d0 a.d1 a.d2 a.f0 a.f1 a.f2 a.order a.prefilter a.mode a.fill) a.input.now a.output.now a.coverage.now a.work.now a.counts.now empty_refused_zoom (asked_for _ c.in-Some.ensures).0 c.if-counts-eq-PLACES.false (asked_for _ c.in-Some.ensures).1 c.zoom-else-counts-eq-PLACES.ensures c.number_in.ensures
 
 pub returns-in-None : goal.returns-in-None
 returns-in-None c =
