@@ -19,6 +19,7 @@ impl<'a> Source<'a> {
     {
         &self.numbers[i * self.plane..(i + 1) * self.plane]
     }
+
     // Where row i of a plane begins.
     pub fn row_at(&self, i: usize) -> usize
         requires { (i + 1) * self.now.row ≤ self.now.plane }

@@ -10,7 +10,8 @@ ghost use Rattle.voxels.specs.Bookkeeping.{column, Each, sum_of, lane, at_lane};
 use crate::row::Row;
 use limits::LONGEST;
 
-// A value for each of four voxels, by name: a generic struct holds no array of its parameter.
+// A value for each of four voxels, by name: an array's map passes them through an iterator, and `step`
+// would be four lines over an array too.
 #[derive(Clone, Copy)]
 pub struct Four<T> {
     pub a: T,
