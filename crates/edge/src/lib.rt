@@ -43,6 +43,17 @@ fn pad_plane(to: &mut [f64], from: &[f64], rows: usize, row: usize)
     }
 }
 
+// The input, into a buffer of the same length. Not copy_from_slice, which becomes memmove, and so a name that the archive
+// would need from outside.
+pub fn copy(to: &mut [f64], from: &[f64])
+    requires { length to.old ≡ length from.now }
+    ensures { to.new ≡ from.now }
+{
+    for (k, x) in to.iter_mut().enumerate() {
+        *x = from[k];
+    }
+}
+
 // The input, with the copies of its edge on every side, into a longer buffer.
 pub fn pad(to: &mut [f64], from: &[f64], dims: [usize; 3])
     requires sized { Sized dims (length from.now) }

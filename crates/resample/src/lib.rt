@@ -6,6 +6,7 @@ ghost use Rattle.resample.specs.Call.{counts_in, call_of, shift_call, zoom_call,
 
 use crate::write::Sampling;
 use coverage::counts::Counts;
+use edge::copy;
 use prefilter::{filter_axis, filter_volume};
 use refusal::verdicts::{
     shift_verdict, spline_filter_verdict, spline_filter1d_verdict, zoom_verdict,
@@ -72,7 +73,7 @@ pub fn spline_filter(r: Request, input: &[f64], output: &mut [f64]) -> Result<()
     ensures { filter_call_of result output.new ≡ spline_filter_call r input.now output.old }
 {
     spline_filter_verdict(r, input, output.len())?;
-    output.copy_from_slice(input);
+    copy(output, input);
     filter_volume(output, r.dims, r.order, r.mode);
     Ok(())
 }
@@ -86,7 +87,7 @@ pub fn spline_filter1d(
     ensures { filter_call_of result output.new ≡ spline_filter1d_call r axis input.now output.old }
 {
     spline_filter1d_verdict(r, axis, input, output.len())?;
-    output.copy_from_slice(input);
+    copy(output, input);
     if r.order > 1 {
         filter_axis(output, r.dims, axis, r.order, r.mode);
     }

@@ -10,7 +10,7 @@ ghost use Rattle.resample.specs.Call.{source_of, coefficients, call_of, values_o
 use axis::coordinate::has_pad;
 use coverage::counts::{Counts, count_codes};
 use coverage::cover::cover;
-use edge::pad;
+use edge::{copy, pad};
 use prefilter::filter_volume;
 use request::sizes::{filters, needed, source_dims};
 use request::{Axes, Request};
@@ -34,7 +34,7 @@ impl<'a> Sampling<'a> {
         if has_pad(self.r.mode, self.r.prefilter, self.r.order) {
             pad(work, self.input, self.r.dims);
         } else {
-            work.copy_from_slice(self.input);
+            copy(work, self.input);
         }
     }
 

@@ -19,18 +19,18 @@ passed c = sym c.spline_filter_verdict.ensures ∙ c.in_ok-spline_filter_verdict
 admitted : (c : In_ok-spline_filter_verdict) → (2 ≤ c.args.r.order) × Filters c.args.r (length c.args.input.now) (length c.args.output.now)
 admitted c = volume_admitted c.args.r c.args.input.now (length c.args.output.now) (passed c)
 
-pub copy_from_slice-requires : goal.copy_from_slice-requires
-copy_from_slice-requires c = as_long (admitted (goal.at.copy_from_slice-requires c).In_ok-spline_filter_verdict).1
+pub copy-requires : goal.copy-requires
+copy-requires c = as_long (admitted (goal.at.copy-requires c).In_ok-spline_filter_verdict).1
 
 pub filter_volume-requires : goal.filter_volume-requires
 filter_volume-requires c =
-    let h = admitted (goal.at.filter_volume-requires c).In_ok-spline_filter_verdict in record { sized = sized h.1 c.copy_from_slice.auto.self; le_order = (h.0, h.1.order) }
+    let h = admitted (goal.at.filter_volume-requires c).In_ok-spline_filter_verdict in record { sized = sized h.1 c.copy.auto.to; le_order = (h.0, h.1.order) }
 
 pub returns : goal.returns
 unfolding spline_filter_call
 returns c =
     let a = c.args in
-    answer_passed a.output.now (passed (goal.at.returns c).In_ok-spline_filter_verdict) (c.filter_volume.ensures ∙ ap (λ (xs : List Float). filter_volume a.r.mode a.r.order a.r.dims xs) c.copy_from_slice.ensures.after)
+    answer_passed a.output.now (passed (goal.at.returns c).In_ok-spline_filter_verdict) (c.filter_volume.ensures ∙ ap (λ (xs : List Float). filter_volume a.r.mode a.r.order a.r.dims xs) c.copy.ensures)
 
 pub returns-in_err-spline_filter_verdict : goal.returns-in_err-spline_filter_verdict
 unfolding spline_filter_call

@@ -22,24 +22,24 @@ passed c = sym c.spline_filter1d_verdict.ensures ∙ c.in_ok-spline_filter1d_ver
 admitted : (c : In_ok-spline_filter1d_verdict) → (c.args.axis ≤ 2) × Filters c.args.r (length c.args.input.now) (length c.args.output.now)
 admitted c = axis_admitted c.args.r c.args.input.now (length c.args.output.now) c.args.axis (passed c)
 
-pub copy_from_slice-requires : goal.copy_from_slice-requires
-copy_from_slice-requires c = as_long (admitted (goal.at.copy_from_slice-requires c).In_ok-spline_filter1d_verdict).1
+pub copy-requires : goal.copy-requires
+copy-requires c = as_long (admitted (goal.at.copy-requires c).In_ok-spline_filter1d_verdict).1
 
 pub filter_axis-requires : goal.filter_axis-requires
 filter_axis-requires c =
-    let h = admitted (goal.at.filter_axis-requires c).In_ok-spline_filter1d_verdict in record { sized = sized h.1 c.copy_from_slice.auto.self; axis_bound = h.0; le_order = (c.if-r-gt1.true, h.1.order) }
+    let h = admitted (goal.at.filter_axis-requires c).In_ok-spline_filter1d_verdict in record { sized = sized h.1 c.copy.auto.to; axis_bound = h.0; le_order = (c.if-r-gt1.true, h.1.order) }
 
 pub returns-then-r-gt1 : goal.returns-then-r-gt1
 unfolding spline_filter1d_call
 returns-then-r-gt1 c =
     let a = c.args in
-    answer_passed a.output.now (passed (goal.at.returns-then-r-gt1 c).In_ok-spline_filter1d_verdict) (done a.input.now (lt-ltb _ _ c.if-r-gt1.true) (c.filter_axis.ensures ∙ ap (λ (xs : List Float). filter_axis a.r.mode a.r.order a.r.dims a.axis xs) c.copy_from_slice.ensures.after))
+    answer_passed a.output.now (passed (goal.at.returns-then-r-gt1 c).In_ok-spline_filter1d_verdict) (done a.input.now (lt-ltb _ _ c.if-r-gt1.true) (c.filter_axis.ensures ∙ ap (λ (xs : List Float). filter_axis a.r.mode a.r.order a.r.dims a.axis xs) c.copy.ensures))
 
 pub returns-else-r-gt1 : goal.returns-else-r-gt1
 unfolding spline_filter1d_call
 returns-else-r-gt1 c =
     let a = c.args in
-    answer_passed a.output.now (passed (goal.at.returns-else-r-gt1 c).In_ok-spline_filter1d_verdict) (left (filter_axis a.r.mode a.r.order a.r.dims a.axis a.input.now) (le-ltb _ _ c.if-r-gt1.false) c.copy_from_slice.ensures.after)
+    answer_passed a.output.now (passed (goal.at.returns-else-r-gt1 c).In_ok-spline_filter1d_verdict) (left (filter_axis a.r.mode a.r.order a.r.dims a.axis a.input.now) (le-ltb _ _ c.if-r-gt1.false) c.copy.ensures)
 
 pub returns-in_err-spline_filter1d_verdict : goal.returns-in_err-spline_filter1d_verdict
 unfolding spline_filter1d_call

@@ -11,4 +11,4 @@ returns-then-has_pad c =
 pub returns-else-has_pad : goal.returns-else-has_pad
 returns-else-has_pad c =
     let s = c.args.self.now in
-    c.copy_from_slice.ensures.after ∙ source_plain s.r s.input.now (sym c.has_pad.ensures ∙ c.if-has_pad.false)
+    c.copy.ensures ∙ source_plain s.r s.input.now (sym c.has_pad.ensures ∙ c.if-has_pad.false)
