@@ -6,7 +6,8 @@ use mathlib.Core.Logic.{dite}
 use native.Mathlib.Decide.{dec_lt}
 use native.Mathlib.Omega.{arith}
 use mathlib.Core.Bool.{Bool, true, false, not, ◌&&◌, cond}
-use Rattle.std.specs.Prelude.{Some, None}
+use Rattle.std.specs.Prelude.{Some, None, Ok, Err}
+use Rattle.std.specs.Result.{result_ok}
 use mathlib.Core.List.{List, [], ◌∷◌}
 use lib.Dec.{eqb, ltb, leb}
 use lib.ListN.{length, take, drop}
@@ -15,9 +16,9 @@ use borrow.Author.Tests.{le-leb, lt-leb, leb-true}
 use Rattle.prefilter.specs.Volume.{count_of}
 use Rattle.text.specs.Text.{literal, found}
 use Rattle.text.proofs.Texts.{some_left, none_left}
-use Rattle.npy.specs.Header.{is_header}
+use Rattle.npy.specs.Header.{is_header, lengths_of}
 use Rattle.npy.specs.File.{magic, text_start, text_length, text_of, data_of, dims_of, longest_text, largest_span, span_of, has_header, has_data, is_npy}
-use Rattle.npy.specs.Bookkeeping.{Headed}
+use Rattle.npy.specs.Bookkeeping.{header_in, Headed}
 use Rattle.npy.proofs.Files.{both}
 
 -- the text of the header, out of the file up to its end
@@ -55,6 +56,13 @@ give {x = x} e f = ap Some (sym f) ∙ sym (ap (λ (t : Bool). cond t (Some x) N
 
 pub give_none : {t : Bool} (x : List ℕ) → t ≡ false → None ≡ cond t (Some x) None
 give_none x e = sym (ap (λ (t : Bool). cond t (Some x) None) e)
+
+pub of_header : (text : List ℕ) → result_ok (header_in text) ≡ cond (is_header text) (Some (lengths_of text)) None
+of_header text = go (is_header text)
+  where
+    go : (t : Bool) → result_ok (cond t (Ok (lengths_of text)) (Err (lengths_of text))) ≡ cond t (Some (lengths_of text)) None
+    go true = refl
+    go false = refl
 
 module _ (file : List ℕ) where
   abbrev has_magic : Bool

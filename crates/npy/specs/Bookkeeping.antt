@@ -1,12 +1,12 @@
 -- What the reader has found behind the header, and what the writer puts.
-use Rattle.std.specs.Prelude.{ℕ, ◌+◌, ◌≤◌, Option, Some, None, cond, List, ◌++◌, length, get_or}
+use Rattle.std.specs.Prelude.{ℕ, ◌+◌, ◌≤◌, Option, Some, None, Result, Ok, Err, cond, List, ◌++◌, length, get_or}
 use Rattle.text.specs.Text.{bytes}
 use Rattle.npy.specs.Header.{is_header, lengths_of}
 use Rattle.npy.specs.File.{text_start, text_length, dims_of, has_header, is_npy, decimal}
 
--- the lengths of a header
-abbrev pub header_in : List ℕ → Option (List ℕ)
-header_in text = cond (is_header text) (Some (lengths_of text)) None
+-- the lengths of a header, or what a text that is none says of them
+abbrev pub header_in : List ℕ → Result (List ℕ) (List ℕ)
+header_in text = cond (is_header text) (Ok (lengths_of text)) (Err (lengths_of text))
 
 -- those of a file whose header is whole, and of a file of the kind
 abbrev pub dims_in_header : List ℕ → Option (List ℕ)

@@ -33,7 +33,7 @@ fn dims_in_header(file: &[u8]) -> Option<[usize; 3]>
     if n > LONGEST_TEXT || TEXT_START + n > file.len() {
         return None;
     }
-    header_of(&file[..TEXT_START + n], TEXT_START)
+    header_of(&file[..TEXT_START + n], TEXT_START).ok()
 }
 
 // Whether the product of the lengths, zeros left out, is small enough.

@@ -188,13 +188,14 @@ pub fn lengths_of(text: &[u8], at: usize) -> [usize; 3]
     lengths_in(text, value_at(text, shape_entry(text, at)))
 }
 
-// The lengths of the header that the text is from a place on, to the end, if it is one.
-pub(crate) fn header_at(text: &[u8], at: usize) -> Option<[usize; 3]>
+// The lengths of the header that the text is from a place on, to the end; if it is none, as an error.
+pub(crate) fn header_at(text: &[u8], at: usize) -> Result<[usize; 3], [usize; 3]>
     ensures { result ≡ header_in (drop at text.now) }
 {
+    let lengths = lengths_of(text, at);
     if is_header(text, at) {
-        Some(lengths_of(text, at))
+        Ok(lengths)
     } else {
-        None
+        Err(lengths)
     }
 }

@@ -18,8 +18,8 @@ impl<'a> Reader<'a> {
         Reader { bytes, at }
     }
 
-    // The lengths of the header that stands from the place reached on, if one does.
-    pub fn header(self) -> Option<[usize; 3]>
+    // The lengths of the header that stands from the place reached on, or what a text that is none says of them.
+    pub fn header(self) -> Result<[usize; 3], [usize; 3]>
         ensures { result ≡ header_in (drop self.entry.at self.entry.bytes.now) }
     {
         header_at(self.bytes, self.at)
@@ -27,7 +27,7 @@ impl<'a> Reader<'a> {
 }
 
 // The same for whoever has a slice and a place.
-pub fn header_of(bytes: &[u8], at: usize) -> Option<[usize; 3]>
+pub fn header_of(bytes: &[u8], at: usize) -> Result<[usize; 3], [usize; 3]>
     ensures { result ≡ header_in (drop at bytes.now) }
 {
     Reader::new(bytes, at).header()
