@@ -60,9 +60,9 @@ module _ (text : List ℕ) (at : ℕ) where
   unfolding past
   past_stops kind h e = rw (sign_first h, e)
 
-  pub past_end : (kind : Kind) → length text ≤ at → past kind (drop at text) ≡ drop (length text) text
+  pub past_end : (kind : Kind) (end : ℕ) → length text ≤ at → length text ≤ end → past kind (drop at text) ≡ drop end text
   unfolding past
-  past_end kind h = rw (drop_of_length-le text {i = at} h) (sym lost)
+  past_end kind end h l = rw (drop_of_length-le text {i = at} h, drop_of_length-le text {i = end} l)
 
   pub is_there : (sign : ℕ) → at < length text → eqb (get_or text at 0) sign ≡ is_at sign (drop at text)
   unfolding is_at

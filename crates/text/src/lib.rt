@@ -44,7 +44,7 @@ pub fn past(text: &[u8], at: usize, kind: Kind) -> usize
             return i;
         }
     }
-    text.len()
+    text.len().max(at)
 }
 
 // Whether this sign stands at the place.
