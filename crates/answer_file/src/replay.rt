@@ -5,7 +5,7 @@ ghost use Rattle.answer_file.specs.Replays.{Counted};
 
 use crate::words::Words;
 
-#[derive(Drop)]
+#[derive(Clone, Copy)]
 pub struct Replay<'a> {
     pub rest: Words<'a>,
     pub compared: u64,
