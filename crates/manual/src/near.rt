@@ -1,7 +1,7 @@
 // How near our values come to SciPy's.
 use answer_file::replay::Replay;
 use answer_file::words::Words;
-use recorded::call::{Call, Made};
+use recorded::call::{BLANK, Call, NO_CODE, OUTPUT_ROOM, WORK_ROOM};
 
 // Of the largest input voxel of the call.
 const TOLERANCE: f64 = 0.000000001;
@@ -28,11 +28,13 @@ fn hold_values(r: &mut Replay, values: &[f64], scipy: Words, largest: f64) -> f6
 // A refusal counts as a number outside, and so do words that are no call.
 pub fn hold_call(call: Call, r: &mut Replay) -> f64 {
     if call.is_call() {
-        let made = call.make();
-        if made.answer.is_ok() {
+        let mut output = [BLANK; OUTPUT_ROOM];
+        let mut coverage = [NO_CODE; OUTPUT_ROOM];
+        let mut work = [BLANK; WORK_ROOM];
+        if call.make(&mut output, &mut coverage, &mut work).is_ok() {
             let n = call.output_length();
             let most = largest(call.input_words(), call.input_length());
-            return hold_values(r, &made.output[..n], call.value_words(), most);
+            return hold_values(r, &output[..n], call.value_words(), most);
         }
     }
     r.refuse();

@@ -35,15 +35,6 @@ pub struct Call<'a> {
     pub words: Words<'a>,
 }
 
-// What a call answered, and what it left in the buffers, each as the entries are lent it.
-#[derive(Drop)]
-pub struct Made {
-    pub answer: Result<Counts, Refusal>,
-    pub output: [f64; OUTPUT_ROOM],
-    pub coverage: [u8; OUTPUT_ROOM],
-    pub work: [f64; WORK_ROOM],
-}
-
 // What a filter answers: it has no counts.
 fn no_counts(_done: ()) -> Counts {
     Counts::none()
@@ -233,29 +224,26 @@ impl<'a> Call<'a> {
         }
     }
 
-    // Makes the call with as much of the buffers as it lends.
-    pub fn make(self) -> Made {
+    // Makes the call with as much of the buffers as it lends. Whoever makes it holds them: handed back with the answer
+    // they would be copied.
+    pub fn make(
+        self,
+        output: &mut [f64; OUTPUT_ROOM],
+        coverage: &mut [u8; OUTPUT_ROOM],
+        work: &mut [f64; WORK_ROOM],
+    ) -> Result<Counts, Refusal> {
         let n = self.input_length();
         let values = self.output_length();
         let codes = self.coverage_length();
         let places = self.work_length();
         let mut input = [0.0; INPUT_ROOM];
-        let mut output = [BLANK; OUTPUT_ROOM];
-        let mut coverage = [NO_CODE; OUTPUT_ROOM];
-        let mut work = [BLANK; WORK_ROOM];
         self.input_words().put_floats(&mut input[..n]);
-        let answer = self.ask(
+        self.ask(
             self.request(),
             &input[..n],
             &mut output[..values],
             &mut coverage[..codes],
             &mut work[..places],
-        );
-        Made {
-            answer,
-            output,
-            coverage,
-            work,
-        }
+        )
     }
 }

@@ -4,7 +4,7 @@ ghost use Rattle.std.specs.Prelude.{◌<◌};
 
 use answer_file::replay::Replay;
 use answer_file::words::Words;
-use recorded::call::{BLANK, Call, INPUT_ROOM, NO_CODE, OUTPUT_ROOM};
+use recorded::call::{BLANK, Call, INPUT_ROOM, NO_CODE, OUTPUT_ROOM, WORK_ROOM};
 use recorded::calls::Calls;
 use recorded::entry::Entry;
 use refusal::{Refusal, number_in};
@@ -145,8 +145,10 @@ fn ask_call(call: Call, r: &mut Replay, voxel: Voxel) -> Option<usize>
     if !call.is_call() {
         return None;
     }
-    let made = call.make();
-    made.answer.ok()?;
+    let mut output = [BLANK; OUTPUT_ROOM];
+    let mut coverage = [NO_CODE; OUTPUT_ROOM];
+    let mut work = [BLANK; WORK_ROOM];
+    call.make(&mut output, &mut coverage, &mut work).ok()?;
     let n = call.input_length();
     let places = call.work_length();
     let mut input = [0.0; INPUT_ROOM];
@@ -156,7 +158,7 @@ fn ask_call(call: Call, r: &mut Replay, voxel: Voxel) -> Option<usize>
         voxel,
         request: call.request(),
         input: &input[..n],
-        work: &made.work[..places],
+        work: &work[..places],
     };
     Some(done.expect_output(r))
 }

@@ -4,12 +4,12 @@ ghost use Rattle.std.specs.Prelude.{◌≤◌, length};
 use answer_file::replay::Replay;
 use answer_file::words::Words;
 use coverage::counts::Counts;
-use recorded::call::{BLANK, Call, Made, NO_CODE};
+use recorded::call::{BLANK, Call, NO_CODE, OUTPUT_ROOM, WORK_ROOM};
 use refusal::{Refusal, number_in};
 use resample::counts_in;
 
 // The number of the answer, and of a shift or a zoom its counts.
-fn expect_answer(call: Call, r: &mut Replay, answer: Result<Counts, Refusal>) {
+pub fn expect_answer(call: Call, r: &mut Replay, answer: Result<Counts, Refusal>) {
     r.count(u64::from(number_in(answer)) == call.number());
     if call.entry().samples() {
         let counts = counts_in(answer);
@@ -45,26 +45,32 @@ fn expect_codes(r: &mut Replay, lent: &[u8], filled: usize, pool: Words) {
     }
 }
 
-pub fn expect_made<'a>(call: Call<'a>, r: &mut Replay<'a>, made: &Made) {
+// What it left in the buffers.
+pub fn expect_left<'a>(
+    call: Call<'a>,
+    r: &mut Replay<'a>,
+    output: &[f64; OUTPUT_ROOM],
+    coverage: &[u8; OUTPUT_ROOM],
+    work: &[f64; WORK_ROOM],
+) {
     let values = call.output_length();
     let codes = call.coverage_length();
     let places = call.work_length();
-    expect_answer(call, r, made.answer);
     expect_buffer(
         r,
-        &made.output[..values],
+        &output[..values],
         call.written(values),
         call.value_words(),
     );
     expect_codes(
         r,
-        &made.coverage[..codes],
+        &coverage[..codes],
         call.written(codes),
         call.code_words(),
     );
     expect_buffer(
         r,
-        &made.work[..places],
+        &work[..places],
         call.coefficients(places),
         call.coefficient_words(),
     );

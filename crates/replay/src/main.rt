@@ -13,10 +13,10 @@ use answer_file::load::load;
 use answer_file::print::say_end;
 use answer_file::replay::Replay;
 use answer_file::words::Words;
-use compare::expect_made;
+use compare::{expect_answer, expect_left};
 use ends::Ends;
 use one_voxel::{shift_voxel, zoom_voxel};
-use recorded::call::Call;
+use recorded::call::{BLANK, Call, NO_CODE, OUTPUT_ROOM, WORK_ROOM};
 use recorded::calls::{Calls, after_calls, calls_for};
 use recorded::entry::Entry;
 use std::io;
@@ -24,9 +24,13 @@ use std::io;
 // Words that are no call count as a difference.
 fn replay_call<'a>(call: Call<'a>, r: &mut Replay<'a>, ends: &mut Ends) {
     if call.is_call() {
-        let made = call.make();
-        ends.count(made.answer);
-        expect_made(call, r, &made);
+        let mut output = [BLANK; OUTPUT_ROOM];
+        let mut coverage = [NO_CODE; OUTPUT_ROOM];
+        let mut work = [BLANK; WORK_ROOM];
+        let answer = call.make(&mut output, &mut coverage, &mut work);
+        ends.count(answer);
+        expect_answer(call, r, answer);
+        expect_left(call, r, &output, &coverage, &work);
     } else {
         r.refuse();
     }
