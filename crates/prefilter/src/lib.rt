@@ -27,7 +27,9 @@ fn reflects(mode: BorderMode) -> bool
     )
 }
 
-// Blocks that lanes fill, one after another.
+// Blocks that lanes fill, one after another. Not inlined: its lines would lie in the frame of a call that filters
+// nothing, too.
+#[inline(never)]
 fn filter_blocks(data: &mut [f64], blocks: usize, grid: Grid, filter: Filter)
     requires fills { Fills grid (grid.lanes * grid.size) }
     requires le_blocks { (1 ≤ blocks) × (length «data».old ≡ blocks * (grid.lanes * grid.size)) }
